@@ -1,0 +1,5 @@
+pub mod Divisors
+pub mod Clocks
+pub mod Refusals
+pub mod FirstTicks
+pub mod Merging
