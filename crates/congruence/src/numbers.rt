@@ -22,7 +22,8 @@ pub fn lcm(a: u64, b: u64) -> Option<u64>
         return Some(0);
     }
     let m = (a / gcd(a, b)).checked_mul(b)?;
-    if m <= LCM_BOUND { Some(m) } else { None }
+    let within = m <= LCM_BOUND;
+    if within { Some(m) } else { None }
 }
 
 // Of a whole list; of no number it is 1.

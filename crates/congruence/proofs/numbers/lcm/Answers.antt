@@ -26,10 +26,10 @@ returns-in-Break-m c =
     let large = c .in-Break-m .ensures tt in
     rw (c .from-residual .ensures) (m, multiple (need.at·returns-in-Break-m c .After-gcd), omega arith)
 
-pub returns-then-m-le-LCM-BOUND : need.returns-then-m-le-LCM-BOUND
-returns-then-m-le-LCM-BOUND c =
-    (rw (c .in-Continue-m .ensures tt .1) (multiple (need.at·returns-then-m-le-LCM-BOUND c .After-gcd)), omega arith)
+pub returns-then-within : need.returns-then-within
+returns-then-within c =
+    (rw (c .in-Continue-m .ensures tt .1) (multiple (need.at·returns-then-within c .After-gcd)), omega arith)
 
-pub returns-else-m-le-LCM-BOUND : need.returns-else-m-le-LCM-BOUND
-returns-else-m-le-LCM-BOUND c =
-    (c .in-Continue-m .m, rw (c .in-Continue-m .ensures tt .1) (multiple (need.at·returns-else-m-le-LCM-BOUND c .After-gcd)), omega arith)
+pub returns-else-within : need.returns-else-within
+returns-else-within c =
+    (c .in-Continue-m .m, rw (c .in-Continue-m .ensures tt .1) (multiple (need.at·returns-else-within c .After-gcd)), omega arith)
