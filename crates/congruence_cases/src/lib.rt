@@ -1,5 +1,5 @@
 // Cases for the crate `congruence`. Their answers come from arithmetic or from a plain search, tick
-// by tick, and not from the crate.
+// by tick, and not from the crate itself.
 #[cfg(test)]
 mod clocks;
 #[cfg(test)]
@@ -8,3 +8,7 @@ mod first_ticks;
 mod groups;
 #[cfg(test)]
 mod numbers;
+#[cfg(test)]
+mod refusals;
+#[cfg(test)]
+mod searched;

@@ -37,7 +37,7 @@ mod tests {
     use std::test::*;
 
     // Texts, and the whole record or the one line that says what is wrong.
-    const CASES: [(&str, &str); 12] = [
+    static CASES: [(&str, &str); 12] = [
         ("", "lcm of the periods: 1\nfirst common tick: 0\n"),
         (
             "5 1\n3 2",
