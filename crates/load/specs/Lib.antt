@@ -1,0 +1,5 @@
+pub mod Ratings
+pub mod Kinds
+pub mod Amps
+pub mod Phases
+pub mod Inrush
