@@ -23,6 +23,12 @@ due t (Some d) = eqb (t % d .clock .period) (d .clock .wait)
 abbrev pub drawing : Places → ℕ → ℕ → Bool
 drawing ps t s = due t (getD ps s None)
 
+-- the periods of the boxes
+abbrev pub periods-of : Places → List ℕ
+periods-of [] = []
+periods-of (None ∷ ps) = periods-of ps
+periods-of (Some d ∷ ps) = d .clock .period ∷ periods-of ps
+
 -- which places a mask names: bit s stands for place s
 abbrev pub bit : ℕ → ℕ → Bool
 bit m s = eqb (m / 2 ^ s % 2) 1
