@@ -64,7 +64,7 @@ fn walk_cycle<L: Load>(list: &DrawList, cycle: u64) -> (u32, u32)
 }
 
 pub impl<L: Load> Finder<L> for Walk as WalkFinder {
-    ghost reach = { λ _ l. Short (l .places) };
+    ghost reach = { λ _ ps. Short ps };
 
     fn find(&mut self, list: &DrawList) -> Result<(u32, u32), Refusal> {
         match cycle_of(list) {
