@@ -9,5 +9,5 @@ pub fn worked_examples() -> usize
     ensures count { λ n. ⌜ n ≡ length worked ⌝ }
     ensures hold { λ _. ⌜ All Holds worked ⌝ }
 {
-    5
+    10
 }
