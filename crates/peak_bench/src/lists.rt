@@ -59,14 +59,11 @@ fn random_box(state: &mut u64) -> Draw {
     }
 }
 
-// A box that draws at the tick in seven cases of eight.
-fn composite_box(state: &mut u64, tick: u64) -> Draw {
+// A box that draws some multiple of 2,520 ticks after the given one. Of two such boxes most meet.
+fn composite_box(state: &mut u64, tick: u16) -> Draw {
     let period = COMPOSITE[usize::from(below(state, 16))];
-    let wait = if below(state, 8) == 0 {
-        below(state, period)
-    } else {
-        remainder(tick, period)
-    };
+    let later = u64::from(below(state, 40)) * 2_520;
+    let wait = remainder(u64::from(tick) + later, period);
     let a = u32::from(below(state, 30)) + 1;
     Draw {
         clock: Clock { period, wait },
@@ -84,7 +81,7 @@ pub fn random_list(state: &mut u64) -> DrawList {
 
 pub fn composite_list(state: &mut u64) -> DrawList {
     let mut list = DrawList::new();
-    let tick = step(state);
+    let tick = below(state, 60_000);
     for place in 0..PLACES {
         let _ = list.set(place, composite_box(state, tick));
     }
