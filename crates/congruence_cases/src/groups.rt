@@ -15,7 +15,7 @@ use std::test::*;
 // Pairs of a period and a wait, and the first tick that their clocks share.
 pub type Row = (&'static [(u16, u16)], FirstTick);
 
-pub fn group_of(heap: Global, pairs: &[(u16, u16)]) -> Result<Vec<Clock>, AllocError> {
+pub(crate) fn group_of(heap: Global, pairs: &[(u16, u16)]) -> Result<Vec<Clock>, AllocError> {
     let mut clocks = Vec::new(heap);
     for (period, wait) in pairs {
         clocks.push(Clock {
@@ -33,7 +33,7 @@ fn check_first(clocks: &[Clock], first: FirstTick) -> Result<(), Fail> {
     check_eq(all_meet(clocks), first != FirstTick::Never)
 }
 
-pub fn check_rows(heap: Global, rows: &[Row]) -> Result<(), Fail> {
+pub(crate) fn check_rows(heap: Global, rows: &[Row]) -> Result<(), Fail> {
     for (pairs, first) in rows {
         let clocks = group_of(heap, pairs)?;
         check_first(&clocks, *first).note(format_args!("of {pairs:?}"))?;

@@ -33,15 +33,6 @@ module _ {L : Type 0} (K : Kind L) (laws : Laws K) where
   load-size None = omega (arith, laws .none-size)
   load-size (Some d) = laws .part-size (d .rating)
 
-  picked-size : (b : Bool) (p : Option Draw) → K .size (cond b (load-of K p) (K .none)) ≤ 1000000
-  picked-size true p = load-size p
-  picked-size false p = omega (arith, laws .none-size)
-
-  pub total-size : (h : ℕ → Bool) (s : ℕ) (ps : Places) → K .size (total K h s ps) ≤ length ps * 1000000
-  unfolding total
-  total-size h s [] = omega (arith, laws .none-size)
-  total-size h s (p ∷ ps) = omega (arith, laws .plus-size (cond (h s) (load-of K p) (K .none)) (total K h (suc s) ps), picked-size (h s) p, total-size h (suc s) ps)
-
   -- the same set as far as the places go, the same load
   pub total-below : (h k : ℕ → Bool) (s : ℕ) (ps : Places) → ((i : ℕ) → i < s + length ps → h i ≡ k i) → total K h s ps ≡ total K k s ps
   unfolding total

@@ -71,7 +71,7 @@ fn check_list<L: Load>(list: &DrawList, peak: u32) -> Result<(), Fail> {
 }
 
 // Lists of a short cycle.
-pub fn check_rows<L: Load>(rows: &[Row]) -> Result<(), Fail> {
+pub(crate) fn check_rows<L: Load>(rows: &[Row]) -> Result<(), Fail> {
     for (boxes, peak) in rows {
         let list = list_of(boxes)?;
         check_list::<L>(&list, *peak).note(format_args!("of {boxes:?}"))?;
@@ -81,7 +81,10 @@ pub fn check_rows<L: Load>(rows: &[Row]) -> Result<(), Fail> {
 }
 
 // A list whose cycle is too long to go through until its periods are reduced.
-pub fn check_long<L: Load>(boxes: &[(u16, u16, (u32, u32, u32))], peak: u32) -> Result<(), Fail> {
+pub(crate) fn check_long<L: Load>(
+    boxes: &[(u16, u16, (u32, u32, u32))],
+    peak: u32,
+) -> Result<(), Fail> {
     let list = list_of(boxes)?;
     check_eq(
         Finder::<L>::find(&mut Walk, &list),
