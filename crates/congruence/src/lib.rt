@@ -1,5 +1,7 @@
 // Numbers only: greatest common divisors, least common multiples, when periodic draws meet, and
 // the first tick that several of them share.
+#![tactic(auto)]
+
 mod clocks;
 mod common;
 mod numbers;

@@ -1,5 +1,7 @@
 // Cases for the crate `congruence`. Their answers come from arithmetic or from a plain search, tick
 // by tick, and not from the crate itself.
+#![tactic(auto)]
+
 #[cfg(test)]
 mod clocks;
 #[cfg(test)]

@@ -1,4 +1,6 @@
 // A finder's list of boxes, what draws at a tick, groups of places, and what a peak is.
+#![tactic(auto)]
+
 mod draw;
 mod factors;
 mod list;

@@ -1,4 +1,6 @@
 // What a finder is: it answers the peak of a list of boxes, with a group that reaches it.
+#![tactic(auto)]
+
 ghost use Rattle.std.specs.Prelude.{◌↔◌};
 ghost use Rattle.draws.specs.Draws.{Found, Places};
 ghost use Rattle.finder.specs.Finders.{Answered};

@@ -1,4 +1,6 @@
 // Reads boxes as `period wait`, a line each, and tells when all of them first draw in one tick.
+#![tactic(auto)]
+
 mod meeting;
 mod record;
 

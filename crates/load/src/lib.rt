@@ -1,4 +1,6 @@
 // Ratings, and what load a rating is: one interface with its laws, and three kinds.
+#![tactic(auto)]
+
 mod amps;
 mod inrush;
 mod kind;

@@ -1,5 +1,7 @@
 // Measures how long the search takes: on random full lists, and on lists of periods with many divisors
 // where most boxes meet.
+#![tactic(auto)]
+
 mod lists;
 mod timing;
 

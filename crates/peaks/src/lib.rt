@@ -1,4 +1,6 @@
 // The finder to use where no other is asked for.
+#![tactic(auto)]
+
 use congruence::Refusal;
 use draws::DrawList;
 use finder::{Finder, FullFinder};

@@ -1,4 +1,6 @@
 // Start waits for booked boxes: how many distinct settings there are, the best choice, and the fitted one.
+#![tactic(auto)]
+
 mod branches;
 mod counting;
 mod fitting;

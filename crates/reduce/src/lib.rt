@@ -1,4 +1,6 @@
 // Finders over finders: Reduce asks about shorter periods, Choose asks a second finder where the first refuses.
+#![tactic(auto)]
+
 mod choose;
 mod reduce;
 mod reduced;

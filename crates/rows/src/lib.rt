@@ -1,5 +1,7 @@
 // Rows of whole numbers as text: a row a line, its numbers apart by white space. From a `#` on a
 // line is a comment, and a line with no number is passed over.
+#![tactic(auto)]
+
 ghost use Rattle.std.specs.Prelude.{◌≡◌, MatchResult};
 ghost use Rattle.rows.specs.declared.RowsFault.TheVariants.{Memory};
 ghost use Rattle.rows.specs.Rows.{before, Numbers, NoNumbers, Adds, Reads};

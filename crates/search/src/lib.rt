@@ -1,4 +1,6 @@
 // A full finder that visits only groups whose boxes all meet.
+#![tactic(auto)]
+
 mod table;
 mod visit;
 

@@ -1,4 +1,6 @@
 // The table of sockets: each empty, booked or running.
+#![tactic(auto)]
+
 mod slot;
 mod sockets;
 mod table;

@@ -1,4 +1,6 @@
 // A finder that goes through one whole cycle of a list, tick by tick.
+#![tactic(auto)]
+
 ghost use Rattle.std.specs.Prelude.{◌≡◌, ◌<◌, ◌≤◌, MatchOption};
 ghost use Rattle.draws.specs.Draws.{Found, periods_of};
 ghost use Rattle.congruence.specs.Divisors.{IsLcm};
