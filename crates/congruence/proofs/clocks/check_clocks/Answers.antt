@@ -16,7 +16,7 @@ returns-in-Some c = (
 
 pub loop-place-preserved : goal.loop-place-preserved
 loop-place-preserved c =
-    All-more Valid _ _ _ c.loop-place-test.true c.loop-place.invariant c.in-default.ensures.valid
+    All-more Valid _ _ _ c.loop-place-test.true c.loop-place.invariant c.in_default.ensures.valid
 
 pub returns : goal.returns
 returns c = subst (All Valid) (take_all _ _ c.loop-place-test.false) c.loop-place.invariant

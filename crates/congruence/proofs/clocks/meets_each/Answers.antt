@@ -25,6 +25,6 @@ loop-other-preserved c =
 
 pub returns : goal.returns
 returns c = (
-  λ e. (c.is-valid.ensures.0 c.if-not-is-valid.false, subst (All (Fit c.args.clock)) (take_all _ _ c.loop-other-test.false) c.loop-other.invariant),
+  λ e. (c.is_valid.ensures.0 c.if-not-is_valid.false, subst (All (Fit c.args.clock)) (take_all _ _ c.loop-other-test.false) c.loop-other.invariant),
   λ m. refl,
 )

@@ -14,7 +14,7 @@ loop-clock-init c = (merged_none, omega arith)
 
 pub merge-requires : goal.merge-requires
 merge-requires c = record {
-  valid = All-get_or Valid _ _ _ c.loop-clock-test.true c.in-ok-check-clocks.ensures;
+  valid = All-get_or Valid _ _ _ c.loop-clock-test.true c.in_ok-check_clocks.ensures;
   within = c.loop-clock.invariant.0.within;
   bounded = c.loop-clock.invariant.1;
 }
@@ -26,12 +26,12 @@ one_more c = merges_next _ _ _ _ c.loop-clock-test.true (c.merge.ensures _ c.loo
 pub returns-in-Missed : goal.returns-in-Missed
 returns-in-Missed c =
     let none = subst (Merges _) c.in-Missed.is (one_more (goal.at.returns-in-Missed c).After-merge) in
-    (c.in-ok-check-clocks.ensures, none_of_all (c.loop-clock.clock-index + 1) _ none)
+    (c.in_ok-check_clocks.ensures, none_of_all (c.loop-clock.clock-index + 1) _ none)
 
-pub past-the-bound-requires : goal.past-the-bound-requires
-past-the-bound-requires c =
-    let valid = c.in-ok-check-clocks.ensures in
-    let long = subst (Merges _) c.in-TooLong.is (one_more (goal.at.past-the-bound-requires c).After-merge) in
+pub past_the_bound-requires : goal.past_the_bound-requires
+past_the_bound-requires c =
+    let valid = c.in_ok-check_clocks.ensures in
+    let long = subst (Merges _) c.in-TooLong.is (one_more (goal.at.past_the_bound-requires c).After-merge) in
     record { valid = valid; beyond = beyond_of_all (c.loop-clock.clock-index + 1) _ valid long }
 
 pub loop-clock-preserved : goal.loop-clock-preserved
@@ -39,7 +39,7 @@ loop-clock-preserved c = subst (Merges _) c.in-Met.is (one_more (goal.at.loop-cl
 
 pub returns : goal.returns
 returns c = (
-  c.in-ok-check-clocks.ensures,
+  c.in_ok-check_clocks.ensures,
   subst (λ cs. First cs c.loop-clock.so_far.tick) (take_all _ _ c.loop-clock-test.false)
       (first_from_merged _ _ _ c.loop-clock.invariant.0 c.loop-clock.invariant.1),
 )

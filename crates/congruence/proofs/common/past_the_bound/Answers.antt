@@ -1,5 +1,5 @@
 use Rattle.std.proofs.lemmas.Bool.{both_ways}
 use Rattle.congruence.proofs.common.past_the_bound.Goals as goal
 
-pub returns-else-all-meet : goal.returns-else-all-meet
-returns-else-all-meet c = λ t h. both_ways _ c.if-all-meet.false (c.all-meet.ensures.value.1 (c.requires.valid, (t, h)))
+pub returns-else-all_meet : goal.returns-else-all_meet
+returns-else-all_meet c = λ t h. both_ways _ c.if-all_meet.false (c.all_meet.ensures.value.1 (c.requires.valid, (t, h)))

@@ -14,19 +14,19 @@ multiple c = gcd_lcm _ _ _ c.gcd.ensures (some_divisor c)
 pub returns-then-a-eq0 : goal.returns-then-a-eq0
 returns-then-a-eq0 c = (lcm_zero _ _ c.if-a-eq0.true, omega arith)
 
-pub nonzero-div-a : goal.nonzero-div-a
-nonzero-div-a c = some_divisor c
+pub nonzero_div-a : goal.nonzero_div-a
+nonzero_div-a c = some_divisor c
 
-pub returns-in-err-m : goal.returns-in-err-m
-returns-in-err-m c =
+pub returns-in_err-m : goal.returns-in_err-m
+returns-in_err-m c =
     let m = c.args.a / c.gcd.result * c.args.b in
-    let large = c.in-err-m.ensures in
-    rw c.from-residual.ensures (m, multiple (goal.at.returns-in-err-m c).After-gcd, omega arith)
+    let large = c.in_err-m.ensures in
+    rw c.from_residual.ensures (m, multiple (goal.at.returns-in_err-m c).After-gcd, omega arith)
 
 pub returns-then-within : goal.returns-then-within
 returns-then-within c =
-    (rw c.in-ok-m.ensures.1 (multiple (goal.at.returns-then-within c).After-gcd), omega arith)
+    (rw c.in_ok-m.ensures.1 (multiple (goal.at.returns-then-within c).After-gcd), omega arith)
 
 pub returns-else-within : goal.returns-else-within
 returns-else-within c =
-    (c.in-ok-m.m, rw c.in-ok-m.ensures.1 (multiple (goal.at.returns-else-within c).After-gcd), omega arith)
+    (c.in_ok-m.m, rw c.in_ok-m.ensures.1 (multiple (goal.at.returns-else-within c).After-gcd), omega arith)

@@ -17,16 +17,16 @@ returns-then-contains c = (lcm_with_zero _ ((zeros (goal.at.returns-then-contain
 pub loop-n-init : goal.loop-n-init
 loop-n-init c = (lcm_none, omega arith)
 
-pub returns-in-err-so-far : goal.returns-in-err-so-far
-returns-in-err-so-far c =
-    let none = not_from_Decides _ (zeros (goal.at.returns-in-err-so-far c).After-contains) c.if-contains.false in
-    let long = c.in-err-so-far.ensures in
-    rw c.from-residual.ensures
+pub returns-in_err-so_far : goal.returns-in_err-so_far
+returns-in_err-so_far c =
+    let none = not_from_Decides _ (zeros (goal.at.returns-in_err-so_far c).After-contains) c.if-contains.false in
+    let long = c.in_err-so_far.ensures in
+    rw c.from_residual.ensures
     (lcm_beyond_front (c.loop-n.n-index + 1) _ (all_some _ none) (long.0, lcm_next _ _ _ _ _ c.loop-n-test.true c.loop-n.invariant.0 long.1, long.2))
 
 pub loop-n-preserved : goal.loop-n-preserved
 loop-n-preserved c =
-    let next = c.in-ok-so-far.ensures in
+    let next = c.in_ok-so_far.ensures in
     (lcm_next _ _ _ _ _ c.loop-n-test.true c.loop-n.invariant.0 next.0, next.1)
 
 pub returns : goal.returns
