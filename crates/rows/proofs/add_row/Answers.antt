@@ -7,18 +7,18 @@ use Rattle.rows.proofs.add_row.Goals as goal
 use Rattle.rows.proofs.add_row.Goals.{After-len-2}
 
 -- the line has a row
-gives : (c : After-len-2) → Gives c.args.columns c.args.at c.args.line.now (record { line = c.args.at; numbers = vec_items c.in-ok-numbers.numbers } ∷ [])
+gives : (c : After-len-2) → Gives c.args.columns c.args.at c.args.line.now (record { line = c.args.at; numbers = vec_items c.in_ok-numbers.numbers } ∷ [])
 gives c =
-    let held = c.in-ok-numbers.numbers.ok.0 in
-    let some = eqb-false _ 0 (sym c.is-empty.ensures ∙ c.if-is-empty.false) in
-    one (vec_items c.in-ok-numbers.numbers) c.in-ok-numbers.ensures (omega (arith, held, some)) (omega (arith, held, c.len.ensures, c.if-len-columns.false))
+    let held = c.in_ok-numbers.numbers.ok.0 in
+    let some = eqb-false _ 0 (sym c.is_empty.ensures ∙ c.if-is_empty.false) in
+    one (vec_items c.in_ok-numbers.numbers) c.in_ok-numbers.ensures (omega (arith, held, some)) (omega (arith, held, c.len.ensures, c.if-len-columns.false))
 
-pub returns-then-is-empty : goal.returns-then-is-empty
-returns-then-is-empty c =
-    let held = c.in-ok-numbers.numbers.ok.0 in
-    let empty = eqb-true _ 0 (sym c.is-empty.ensures ∙ c.if-is-empty.true) in
-    let items = nil_from_length (vec_items c.in-ok-numbers.numbers) (omega (arith, held, empty)) in
-    ([], none (subst (Numbers c.args.line.now) items c.in-ok-numbers.ensures), sym (append-nil _), λ h. h)
+pub returns-then-is_empty : goal.returns-then-is_empty
+returns-then-is_empty c =
+    let held = c.in_ok-numbers.numbers.ok.0 in
+    let empty = eqb-true _ 0 (sym c.is_empty.ensures ∙ c.if-is_empty.true) in
+    let items = nil_from_length (vec_items c.in_ok-numbers.numbers) (omega (arith, held, empty)) in
+    ([], none (subst (Numbers c.args.line.now) items c.in_ok-numbers.ensures), sym (append-nil _), λ h. h)
 
 pub returns-then-len-most : goal.returns-then-len-most
 returns-then-len-most c =
@@ -26,7 +26,7 @@ returns-then-len-most c =
 
 pub returns : goal.returns
 returns c =
-    let pushed = chosen _ _ _ _ c.push.ensures.items (ap is_ok c.in-ok-push.was) in (
+    let pushed = chosen _ _ _ _ c.push.ensures.items (ap is_ok c.in_ok-push.was) in (
       _,
       gives (goal.at.returns c).After-len-2,
       ap (mathlib.Core.List.map said) pushed ∙ map_push said (vec_items c.args.rows.now) _,
