@@ -17,8 +17,8 @@ loop-place-preserved c =
     let more = subst (λ p. Factor (front ++ periods_of (p ∷ [])) c.args.period c.joined-factor.result) c.at.ensures (c.joined-factor.ensures.factor front c.loop-place.invariant.0) in
     (subst (λ qs. Factor qs c.args.period c.joined-factor.result) (sym (periods_more list.places c.loop-place.place (omega (arith, list.whole)))) more, c.joined-factor.ensures.divides)
 
-pub overflow-cast-result : goal.overflow-cast-result
-overflow-cast-result c =
+pub overflow_cast-result : goal.overflow_cast-result
+overflow_cast-result c =
     let some : 0 < c.args.period = omega (arith, c.if-period-eq0.false) in
     let low : c.loop-place.factor ≤ c.args.period = le_of_dvd some c.loop-place.invariant.1 in
     omega (arith, c.ranges.period)

@@ -11,9 +11,9 @@ use Rattle.draws.proofs.factors.joined.Goals.{After-lcm}
 divisor : (c : After-lcm) → IsGcd c.args.period c.in-Some.draw.clock.period c.gcd.result
 divisor c = rw (c.from.ensures, c.from-2.ensures) at c.gcd.ensures
 
-pub returns-in-default : goal.returns-in-default
-returns-in-default c = record {
-  factor = λ qs old. subst (λ p. Factor (qs ++ periods_of (p ∷ [])) c.args.period c.args.factor) (sym c.in-default.is) (subst (λ l. Factor l c.args.period c.args.factor) (sym (append-nil qs)) old);
+pub returns-in_default : goal.returns-in_default
+returns-in_default c = record {
+  factor = λ qs old. subst (λ p. Factor (qs ++ periods_of (p ∷ [])) c.args.period c.args.factor) (sym c.in_default.is) (subst (λ l. Factor l c.args.period c.args.factor) (sym (append-nil qs)) old);
   divides = c.requires.divides;
 }
 

@@ -19,7 +19,7 @@ loop-left-preserved g c =
     let list = c.args.list.now in
     let mask = bit_and c.args.mask 16777215 in
     let low = lowest_of 24 32 c.loop-left.left (omega arith) (omega arith) c.loop-left.invariant.within in
-    let sum = c.plus-sum.ensures ∙ ap (K.plus c.loop-left.sum) c.load-at.ensures in
+    let sum = c.plus-sum.ensures ∙ ap (K.plus c.loop-left.sum) c.load_at.ensures in
     subst (Summed K list.places mask _) (sym sum)
     (summed_more K g.met.L.Load.lawful list.places (omega (arith, list.whole)) mask c.loop-left.left (count_trailing_zeros 32 c.loop-left.left) c.loop-left.sum low c.loop-left.invariant)
 

@@ -12,7 +12,7 @@ clock_of r = clock_said (said r)
 
 pub loop-row-preserved : goal.loop-row-preserved
 loop-row-preserved c =
-    let pushed = chosen _ _ _ _ c.push.ensures.items (ap is_ok c.in-ok-push.was) in
+    let pushed = chosen _ _ _ _ c.push.ensures.items (ap is_ok c.in_ok-push.was) in
     let rows = c.args.rows.now in
     let i = c.loop-row.row-index in
     let here = c.clock_of.ensures ∙ ap clock_of c.row-item.is in

@@ -6,7 +6,7 @@ use Rattle.first_meeting.proofs.record.periods_of.Goals as goal
 
 pub loop-clock-preserved : goal.loop-clock-preserved
 loop-clock-preserved c =
-    let pushed = chosen _ _ _ _ c.push.ensures.items (ap is_ok c.in-ok-push.was) in
+    let pushed = chosen _ _ _ _ c.push.ensures.items (ap is_ok c.in_ok-push.was) in
     pushed ∙ ap (λ l. l ++ c.from.result ∷ []) c.loop-clock.invariant ∙ ap (λ k. periods (take c.loop-clock.clock-index c.args.clocks.now) ++ k ∷ []) c.from.ensures
     ∙ sym (map_more (λ k. k.period) c.args.clocks.now c.loop-clock.clock-index _ c.loop-clock-test.true)
 

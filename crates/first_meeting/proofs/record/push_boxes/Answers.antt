@@ -6,7 +6,7 @@ use Rattle.first_meeting.proofs.record.push_boxes.Goals as goal
 
 pub loop-place-preserved : goal.loop-place-preserved
 loop-place-preserved c =
-    appended _ _ _ _ _ _ _ c.in-ok-push-str.ensures.bytes (c.as-str.ensures.value ∙ c.in-ok-box-line.ensures) c.loop-place.invariant
+    appended _ _ _ _ _ _ _ c.in_ok-push_str.ensures.bytes (c.as_str.ensures.value ∙ c.in_ok-box_line.ensures) c.loop-place.invariant
     (box_lines_more c.args.clocks.now c.loop-place.place _ c.loop-place-test.true)
 
 pub returns : goal.returns

@@ -13,7 +13,7 @@ loop-other-preserved c =
         _,
         pairs_with_apart c.args.clocks.now c.args.place c.loop-other.other old.0 old.1 (not_from_Decides _ c.meets.ensures.value w.if-not-meets.true),
         ap string_bytes w.out-is
-            ∙ appended _ _ _ _ (string_bytes c.args.out.now) old.0 _ w.in-ok-push-str.ensures.bytes (w.as-str.ensures.value ∙ w.in-ok-pair-line.ensures) old.2 refl,
+            ∙ appended _ _ _ _ (string_bytes c.args.out.now) old.0 _ w.in_ok-push_str.ensures.bytes (w.as_str.ensures.value ∙ w.in_ok-pair_line.ensures) old.2 refl,
       )
       | else-not-meets w ↦ (
         old.0,

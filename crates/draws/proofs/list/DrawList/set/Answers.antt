@@ -4,8 +4,11 @@ use Rattle.draws.specs.Checks.{sound}
 use Rattle.draws.proofs.Sets.{set_ranges}
 use Rattle.draws.proofs.list.DrawList.set.Goals as goal
 
-pub invariant-of-self : goal.invariant-of-self
-invariant-of-self c =
+pub invariant_of-self : goal.invariant_of-self
+invariant_of-self c =
     let list = c.args.self.now in
-    let fits = ap (λ o. not (is_some o)) (sym c.in-default.ensures) in
-    (length-set _ _ _ ∙ list.whole, (set_ranges sound None list.places 24 c.args.place _ (omega (arith, list.whole)) fits list.ranges, tt))
+    let fits = ap (λ o. not (is_some o)) (sym c.in_default.ensures) in
+    record {
+      whole = length-set _ _ _ ∙ list.whole;
+      ranges = set_ranges sound None list.places 24 c.args.place _ (omega (arith, list.whole)) fits list.ranges;
+    }
