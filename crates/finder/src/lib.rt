@@ -24,6 +24,6 @@ pub trait Finder<L: Load> {
 pub trait FullFinder<L: Load>: Finder<L> {
     fn find_any(&mut self, list: &DrawList) -> (u32, u32)
         ensures answer { Found L.Load.kind list.now.places result.0 result.1 }
-        ensures before { (ps : Places) → reach self.old ps }
-        ensures after { (ps : Places) → reach self.new ps };
+        ensures before { (ps : Places) → Self.reach self.old ps }
+        ensures after { (ps : Places) → Self.reach self.new ps };
 }

@@ -113,7 +113,7 @@ fn clock_of(row: &Row) -> Clock
 }
 
 fn clocks_of(heap: Global, rows: &[Row]) -> Result<Vec<Clock>, AllocError>
-    ensures* { λ r. ⌜ IfOk r (λ v. v.items ≡ map (λ r. clock_said (said r)) rows.now) ⌝ }
+    ensures { IfOk result (λ v. v.items ≡ map (λ r. clock_said (said r)) rows.now) }
 {
     let mut clocks = Vec::new(heap);
     for row in rows {

@@ -32,7 +32,7 @@ pub returns-in-Ok : goal.returns-in-Ok
 returns-in-Ok c =
     let at = (goal.at.returns-in-Ok c).After-first_common_tick in
     let known = subst (Answer _) c.in-Ok.is (answer at) in
-    let said_so = subst (λ cs. Record cs c.in-Ok.first (string_bytes c.in-ok-meeting-record.field-0)) (c.as_slice-in-Ok.ensures.value ∙ clocks at) c.in-ok-meeting-record.ensures in
+    let said_so = subst (λ cs. Record cs c.in-Ok.first (string_bytes c.in_ok-meeting_record-in-Ok.field-0)) (c.as_slice-in-Ok.ensures.value ∙ clocks at) c.in_ok-meeting_record-in-Ok.ensures in
     (_, c.in-Ok.first, has_rows at, known.0, known.1, said_so)
 
 pub index-requires : goal.index-requires

@@ -3,13 +3,13 @@ use Rattle.std.proofs.lemmas.Bool.Decides.{not_from_Decides}
 use Rattle.first_meeting.specs.Records.{pair_line}
 use Rattle.first_meeting.proofs.Texts.{appended, pairs_with_apart, pairs_with_met}
 use Rattle.first_meeting.proofs.record.push_pairs.Goals as goal
-use Rattle.first_meeting.proofs.record.push_pairs.Goals.{then-not-meets+in-ok-pair-line+in-ok-push-str, else-not-meets}
+use Rattle.first_meeting.proofs.record.push_pairs.Goals.{then-not-meets+in_ok-pair_line+in_ok-push_str, else-not-meets}
 
 pub loop-other-preserved : goal.loop-other-preserved
 loop-other-preserved c =
     let old = c.loop-other.invariant in
     elim c.if-not-meets.branch [
-      | then-not-meets+in-ok-pair-line+in-ok-push-str w ↦ (
+      | then-not-meets+in_ok-pair_line+in_ok-push_str w ↦ (
         _,
         pairs_with_apart c.args.clocks.now c.args.place c.loop-other.other old.0 old.1 (not_from_Decides _ c.meets.ensures.value w.if-not-meets.true),
         ap string_bytes w.out-is
