@@ -14,16 +14,16 @@ loop-tick-preserved g c =
     let laws = g.met.L.Load.lawful in
     let list = c.args.list.now in
     let few : length list.places ≤ 24 = omega (arith, list.whole) in
-    let measures = c.measure-measure.ensures ∙ ap K.measure c.load-of.ensures in
+    let measures = c.measure-measure.ensures ∙ ap K.measure c.load_of.ensures in
     elim c.if-measure-peak.branch [
       | then-measure-peak w ↦
           subst (λ p. Walked K list.places (c.loop-tick.tick + 1) p c.if-measure-peak.group) (sym w.peak-is)
           (subst (Walked K list.places (c.loop-tick.tick + 1) c.measure-measure.result) (sym w.group-is)
-          (walked_higher K laws list.places few c.loop-tick.tick c.loop-tick.peak c.loop-tick.group c.loop-tick.invariant c.drawing-at-drawn.result c.measure-measure.result c.drawing-at-drawn.ensures measures w.if-measure-peak.true))
+          (walked_higher K laws list.places few c.loop-tick.tick c.loop-tick.peak c.loop-tick.group c.loop-tick.invariant c.drawing_at-drawn.result c.measure-measure.result c.drawing_at-drawn.ensures measures w.if-measure-peak.true))
       | else-measure-peak w ↦
           subst (λ p. Walked K list.places (c.loop-tick.tick + 1) p c.if-measure-peak.group) (sym w.peak-is)
           (subst (Walked K list.places (c.loop-tick.tick + 1) c.loop-tick.peak) (sym w.group-is)
-          (walked_lower K laws list.places few c.loop-tick.tick c.loop-tick.peak c.loop-tick.group c.loop-tick.invariant c.drawing-at-drawn.result c.measure-measure.result c.drawing-at-drawn.ensures measures w.if-measure-peak.false))
+          (walked_lower K laws list.places few c.loop-tick.tick c.loop-tick.peak c.loop-tick.group c.loop-tick.invariant c.drawing_at-drawn.result c.measure-measure.result c.drawing_at-drawn.ensures measures w.if-measure-peak.false))
     ]
 
 pub returns : goal.returns

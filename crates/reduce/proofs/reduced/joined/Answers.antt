@@ -12,8 +12,8 @@ divisor c = rw (c.from.ensures, c.from-2.ensures) at c.gcd.ensures
 pub returns-then-other-place : goal.returns-then-other-place
 returns-then-other-place c = record { factor = factor_skip _ _ _ _ _ c.requires.factor (inl c.if-other-place.true); divides = c.requires.divides }
 
-pub returns-in-default : goal.returns-in-default
-returns-in-default c = record { factor = factor_skip _ _ _ _ _ c.requires.factor (inr (sym c.at.ensures ∙ c.in-default.is)); divides = c.requires.divides }
+pub returns-in_default : goal.returns-in_default
+returns-in_default c = record { factor = factor_skip _ _ _ _ _ c.requires.factor (inr (sym c.at.ensures ∙ c.in_default.is)); divides = c.requires.divides }
 
 pub unreachable-requires : goal.unreachable-requires
 unreachable-requires c =

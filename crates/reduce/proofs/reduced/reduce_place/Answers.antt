@@ -3,9 +3,9 @@ use Rattle.std.proofs.lemmas.List.{set-get_or}
 use Rattle.reduce.specs.Reductions.{ReducedAt}
 use Rattle.reduce.proofs.reduced.reduce_place.Goals as goal
 
-pub returns-in-default : goal.returns-in-default
-returns-in-default c =
-    let empty = sym c.at.ensures ∙ c.in-default.is in
+pub returns-in_default : goal.returns-in_default
+returns-in_default c =
+    let empty = sym c.at.ensures ∙ c.in_default.is in
     let qs = c.args.out.now.places in (
       None,
       subst (λ p. ReducedAt c.args.list.now.places c.args.place p None) (sym empty) refl,

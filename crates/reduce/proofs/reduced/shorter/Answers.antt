@@ -21,11 +21,11 @@ few c =
 pub factor-factor-requires : goal.factor-factor-requires
 factor-factor-requires c = let v = valid c in (v.some, v.most)
 
-pub overflow-cast-period : goal.overflow-cast-period
-overflow-cast-period c = omega (arith, few c)
+pub overflow_cast-period : goal.overflow_cast-period
+overflow_cast-period c = omega (arith, few c)
 
-pub nonzero-rem-wait : goal.nonzero-rem-wait
-nonzero-rem-wait c = some (goal.at.nonzero-rem-wait c).After-factor-factor
+pub nonzero_rem-wait : goal.nonzero_rem-wait
+nonzero_rem-wait c = some (goal.at.nonzero_rem-wait c).After-factor-factor
 
 pub returns : goal.returns
 returns c =

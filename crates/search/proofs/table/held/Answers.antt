@@ -8,7 +8,7 @@ use Rattle.search.proofs.table.held.Goals.{then-meet-at, else-meet-at}
 pub loop-s-preserved : goal.loop-s-preserved
 loop-s-preserved c =
     let names = Held c.args.list.now.places in
-    elim c.if-meet-at.branch [
-      | then-meet-at w ↦ subst (names _) (sym w.mask-is) (names_more _ c.loop-s.s c.loop-s.mask c.loop-s.invariant (omega arith) (c.meet_at.ensures.0 w.if-meet-at.true))
-      | else-meet-at w ↦ subst (names _) (sym w.mask-is) (names_same _ c.loop-s.s c.loop-s.mask c.loop-s.invariant (not_from_Decides _ c.meet_at.ensures w.if-meet-at.false))
+    elim c.if-meet_at.branch [
+      | then-meet-at w ↦ subst (names _) (sym w.mask-is) (names_more _ c.loop-s.s c.loop-s.mask c.loop-s.invariant (omega arith) (c.meet_at.ensures.0 w.if-meet_at.true))
+      | else-meet-at w ↦ subst (names _) (sym w.mask-is) (names_same _ c.loop-s.s c.loop-s.mask c.loop-s.invariant (not_from_Decides _ c.meet_at.ensures w.if-meet_at.false))
     ]

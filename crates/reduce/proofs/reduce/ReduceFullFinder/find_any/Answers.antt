@@ -7,7 +7,7 @@ returns g c =
     let list = c.args.list.now in
     let short = c.reduced.result in
     record {
-      answer = found_reduced list.places short.places list.whole c.reduced.ensures (all_valid list) (all_valid short) g.L.Load.kind g.met.L.Load.lawful c.find-any.result.0 c.find-any.result.1 c.find-any.ensures.answer;
-      before = λ ps qs reduced. c.find-any.ensures.before qs;
-      after = λ ps qs reduced. c.find-any.ensures.after qs;
+      answer = found_reduced list.places short.places list.whole c.reduced.ensures (all_valid list) (all_valid short) g.L.Load.kind g.met.L.Load.lawful c.find_any.result.0 c.find_any.result.1 c.find_any.ensures.answer;
+      before = λ ps qs reduced. c.find_any.ensures.before qs;
+      after = λ ps qs reduced. c.find_any.ensures.after qs;
     }
