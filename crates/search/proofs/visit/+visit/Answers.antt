@@ -22,7 +22,7 @@ returns-then-left-eq0 g t c =
     elim c.then-left-eq0.branch [
       | then-left-eq0-via-then-left-eq0 w ↦ visited_none K laws list.places few c.args.group c.args.load c.args.left c.args.best.peak c.args.best.group c.requires.node c.requires.reached w.if-left-eq0.true
       | then-left-eq0-via-else-left-eq0+then-measure-best w ↦
-          let measured = w.measure.ensures ∙ ap K.measure (w.plus.ensures ∙ ap (K.plus c.args.load) w.load-of.ensures) in
+          let measured = w.measure.ensures ∙ ap K.measure (w.plus.ensures ∙ ap (K.plus c.args.load) w.load_of.ensures) in
           visited_cut K laws list.places few c.args.group c.args.load c.args.left c.args.best.peak c.args.best.group c.requires.node c.requires.reached (omega (arith, measured, w.if-measure-best.true))
     ]
 
@@ -31,7 +31,7 @@ bounds-table-next g t c = (low g t (goal.at.bounds-table-next g t c).Else-measur
 
 -- the load with what stands at the next place
 added : (g : given.Over) (t : ℕ) (c : After-better-here g t) → c.plus-sum.result ≡ g.L.Load.kind.plus c.args.load (load_of g.L.Load.kind (get_or c.args.list.now.places (count_trailing_zeros 32 c.args.left) None))
-added g t c = c.plus-sum.ensures ∙ ap (g.L.Load.kind.plus c.args.load) c.load-at.ensures
+added g t c = c.plus-sum.ensures ∙ ap (g.L.Load.kind.plus c.args.load) c.load_at.ensures
 
 shifted : (left : ℕ) → Lowest 24 left (count_trailing_zeros 32 left) → 1 * 2 ^ count_trailing_zeros 32 left % 4294967296 ≡ 2 ^ count_trailing_zeros 32 left
 shifted left low = one_shl (count_trailing_zeros 32 left) 32 (omega (arith, low.within))
