@@ -7,13 +7,15 @@ use peaks::PeakFinder;
 use reduce::Reduce;
 use search::Search;
 use std::process::Abort;
-use std::test::Fail;
 use walk::Walk;
 
-// Boxes from the first place on, each a period, a wait and a rating, and their peak.
-pub type Row = (&'static [(u16, u16, (u32, u32, u32))], u32);
+// A box: its period, wait and rating.
+pub type Case = (u16, u16, (u32, u32, u32));
 
-fn list_of(rt: &impl Abort, boxes: &[(u16, u16, (u32, u32, u32))]) -> DrawList {
+// Boxes from the first place on, and their peak.
+pub type Row = (&'static [Case], u32);
+
+fn list_of(rt: &impl Abort, boxes: &[Case]) -> DrawList {
     let mut list = DrawList::new();
     for (place, (period, wait, (a, b, c))) in boxes.iter().enumerate() {
         let draw = Draw {
@@ -27,70 +29,61 @@ fn list_of(rt: &impl Abort, boxes: &[(u16, u16, (u32, u32, u32))]) -> DrawList {
                 c: *c,
             },
         };
-        assert_eq!(rt; list.set(place, draw), Ok(()));
+        assert_eq!(rt; list.set(place, draw), Ok(()), "at {place} of {boxes:?}");
     }
     list
 }
 
 // The peak is the one known, and the group measures it.
-fn check_found<L: Load>(
-    rt: &impl Abort,
-    list: &DrawList,
-    found: (u32, u32),
-    peak: u32,
-) -> Result<(), Fail> {
-    assert_eq!(rt; found.0, peak);
-    assert_eq!(rt; load_of::<L>(list, found.1).measure(), peak);
-    Ok(())
+fn check_found<L: Load>(rt: &impl Abort, boxes: &[Case], found: (u32, u32), peak: u32) {
+    let list = list_of(rt, boxes);
+    assert_eq!(rt; found.0, peak, "of {boxes:?}");
+    assert_eq!(rt;
+        load_of::<L>(&list, found.1).measure(),
+        peak,
+        "of {boxes:?}"
+    );
 }
 
-fn check_finder<L: Load, F: Finder<L>>(
-    rt: &impl Abort,
-    finder: &mut F,
-    list: &DrawList,
-    peak: u32,
-) -> Result<(), Fail> {
-    match finder.find(list) {
-        Ok(found) => check_found::<L>(rt, list, found, peak),
-        Err(refusal) => {
-            assert_eq!(rt; Err(refusal), Ok(()));
-            Ok(())
-        },
+fn check_finder<L: Load, F: Finder<L>>(rt: &impl Abort, finder: &mut F, boxes: &[Case], peak: u32) {
+    match finder.find(&list_of(rt, boxes)) {
+        Ok(found) => check_found::<L>(rt, boxes, found, peak),
+        Err(refusal) => assert_eq!(rt; Err(refusal), Ok(()), "of {boxes:?}"),
     }
 }
 
 // The finders that have every list of the tables within reach.
-fn check_list<L: Load>(rt: &impl Abort, list: &DrawList, peak: u32) -> Result<(), Fail> {
-    check_finder::<L, Reduce<Walk>>(rt, &mut Reduce { below: Walk }, list, peak)?;
-    check_found::<L>(rt, list, FullFinder::<L>::find_any(&mut Search, list), peak)?;
+fn check_list<L: Load>(rt: &impl Abort, boxes: &[Case], peak: u32) {
+    check_finder::<L, Reduce<Walk>>(rt, &mut Reduce { below: Walk }, boxes, peak);
+    let list = list_of(rt, boxes);
     check_found::<L>(
         rt,
-        list,
-        FullFinder::<L>::find_any(&mut PeakFinder::new(), list),
+        boxes,
+        FullFinder::<L>::find_any(&mut Search, &list),
         peak,
-    )
+    );
+    check_found::<L>(
+        rt,
+        boxes,
+        FullFinder::<L>::find_any(&mut PeakFinder::new(), &list),
+        peak,
+    );
 }
 
 // Lists of a short cycle.
-pub(crate) fn check_rows<L: Load>(rt: &impl Abort, rows: &[Row]) -> Result<(), Fail> {
+pub(crate) fn check_rows<L: Load>(rt: &impl Abort, rows: &[Row]) {
     for (boxes, peak) in rows {
-        let list = list_of(rt, boxes);
-        check_list::<L>(rt, &list, *peak).note(format_args!("of {boxes:?}"))?;
-        check_finder::<L, Walk>(rt, &mut Walk, &list, *peak).note(format_args!("of {boxes:?}"))?;
+        check_list::<L>(rt, boxes, *peak);
+        check_finder::<L, Walk>(rt, &mut Walk, boxes, *peak);
     }
-    Ok(())
 }
 
 // A list whose cycle is too long to go through until its periods are reduced.
-pub(crate) fn check_long<L: Load>(
-    rt: &impl Abort,
-    boxes: &[(u16, u16, (u32, u32, u32))],
-    peak: u32,
-) -> Result<(), Fail> {
-    let list = list_of(rt, boxes);
+pub(crate) fn check_long<L: Load>(rt: &impl Abort, boxes: &[Case], peak: u32) {
     assert_eq!(rt;
-        Finder::<L>::find(&mut Walk, &list),
-        Err(Refusal::BeyondReach)
+        Finder::<L>::find(&mut Walk, &list_of(rt, boxes)),
+        Err(Refusal::BeyondReach),
+        "of {boxes:?}"
     );
-    check_list::<L>(rt, &list, peak)
+    check_list::<L>(rt, boxes, peak);
 }

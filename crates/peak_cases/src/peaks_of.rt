@@ -1,7 +1,6 @@
 // Random lists, each peak found by a search of all ticks below the least common multiple of the periods.
 use crate::lists::{Row, check_rows};
 use load::{Amps, Inrush, Phases};
-use std::test::Fail;
 
 static AMPS: [Row; 8] = [
     (
@@ -268,16 +267,16 @@ static INRUSH: [Row; 8] = [
 ];
 
 #[test]
-fn single_phase(rt: HostRuntime) -> Result<(), Fail> {
-    check_rows::<Amps>(&rt, &AMPS)
+fn single_phase(rt: HostRuntime) {
+    check_rows::<Amps>(&rt, &AMPS);
 }
 
 #[test]
-fn three_phases(rt: HostRuntime) -> Result<(), Fail> {
-    check_rows::<Phases>(&rt, &PHASES)
+fn three_phases(rt: HostRuntime) {
+    check_rows::<Phases>(&rt, &PHASES);
 }
 
 #[test]
-fn inrush(rt: HostRuntime) -> Result<(), Fail> {
-    check_rows::<Inrush>(&rt, &INRUSH)
+fn inrush(rt: HostRuntime) {
+    check_rows::<Inrush>(&rt, &INRUSH);
 }

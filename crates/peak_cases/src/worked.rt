@@ -1,7 +1,6 @@
 // Lists small enough to work out by hand.
 use crate::lists::{Row, check_long, check_rows};
 use load::{Amps, Inrush, Phases};
-use std::test::Fail;
 
 static AMPS: [Row; 4] = [
     (&[], 0),
@@ -21,23 +20,23 @@ static PHASES: [Row; 2] = [
 static INRUSH: [Row; 1] = [(&[(1, 0, (2, 5, 0)), (1, 0, (3, 4, 0))], 10)];
 
 #[test]
-fn worked_out_amps(rt: HostRuntime) -> Result<(), Fail> {
-    check_rows::<Amps>(&rt, &AMPS)
+fn worked_out_amps(rt: HostRuntime) {
+    check_rows::<Amps>(&rt, &AMPS);
 }
 
 #[test]
-fn worked_out_phases(rt: HostRuntime) -> Result<(), Fail> {
-    check_rows::<Phases>(&rt, &PHASES)
+fn worked_out_phases(rt: HostRuntime) {
+    check_rows::<Phases>(&rt, &PHASES);
 }
 
 #[test]
-fn worked_out_inrush(rt: HostRuntime) -> Result<(), Fail> {
-    check_rows::<Inrush>(&rt, &INRUSH)
+fn worked_out_inrush(rt: HostRuntime) {
+    check_rows::<Inrush>(&rt, &INRUSH);
 }
 
 // Primes: six of them, and a seventh, all drawing at tick 0.
 #[test]
-fn long_cycles(rt: HostRuntime) -> Result<(), Fail> {
+fn long_cycles(rt: HostRuntime) {
     let boxes = [
         (997, 0, (1, 0, 0)),
         (991, 0, (1, 0, 0)),
@@ -47,6 +46,6 @@ fn long_cycles(rt: HostRuntime) -> Result<(), Fail> {
         (967, 0, (1, 0, 0)),
         (953, 0, (1, 0, 0)),
     ];
-    check_long::<Amps>(&rt, &boxes[..6], 6)?;
-    check_long::<Amps>(&rt, &boxes, 7)
+    check_long::<Amps>(&rt, &boxes[..6], 6);
+    check_long::<Amps>(&rt, &boxes, 7);
 }
