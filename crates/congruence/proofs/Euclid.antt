@@ -1,5 +1,5 @@
 -- Bezout's identity without subtraction, and what it gives of divisors and multiples.
-use Rattle.std.proofs.Common.{◌≡◌, ℕ, zero, suc, ◌+◌, ◌*◌, ◌/◌, ◌%◌, ◌<◌, ◌≤◌, List, [], ◌∷◌, sym, refl, ap, ◌∙◌, subst, mod-lt, arith}
+use Rattle.std.proofs.Common.{◌≡◌, ℕ, zero, suc, ◌+◌, ◌*◌, ◌/◌, ◌%◌, ◌<◌, ◌≤◌, [], ◌∷◌, sym, refl, ap, ◌∙◌, subst, mod-lt, arith}
 use Prim.Native.Nat.{◌∣◌}
 use native.Mathlib.Nat.{div-add-mod, div-eq_of_eq-mul_right, dvd-add, dvd-add_iff_right, dvd_antisymm, dvd-mod_iff, dvd-mul_left_of_dvd, dvd-mul_right, dvd-mul_right_of_dvd, dvd_refl, dvd-zero, mul-dvd-mul_left, mul-dvd-mul_right}
 use Rattle.congruence.specs.Divisors.{IsGcd, IsLcm}

@@ -1,18 +1,7 @@
 -- Numbers that agree modulo the greatest common divisor of two others, and what joins such agreements.
-use Rattle.std.proofs.Common.{◌≡◌, ℕ, zero, suc, ◌+◌, ◌-◌, ◌*◌, ◌/◌, ◌%◌, ◌<◌, ◌≤◌, List, [], ◌∷◌, sym, refl, ap, ◌∙◌, subst, ⊎_elim, arith}
+use Rattle.std.proofs.Common.{◌≡◌, ℕ, zero, suc, ◌+◌, ◌*◌, ◌/◌, ◌%◌, ◌<◌, List, [], ◌∷◌, sym, refl, ap, ◌∙◌, subst, ⊎_elim, arith}
 use Prim.Native.Nat.{◌∣◌}
-use native.Mathlib.Nat.{
-  add-mul-mod_self_left,
-  div-mul_cancel,
-  dvd-add,
-  dvd-mul_left_of_dvd,
-  dvd-mul_right_of_dvd,
-  dvd_refl,
-  dvd-sub,
-  mod-add-div,
-  mul-div_cancel',
-  one-dvd,
-}
+use native.Mathlib.Nat.{add-mul-mod_self_left, dvd-add, dvd-mul_right_of_dvd, dvd_refl, dvd-sub, mul-div_cancel'}
 use Rattle.std.specs.List.{AllByRecursion as All}
 use Rattle.std.proofs.ByRecursion.{All-weaker}
 use Rattle.std.proofs.str.Laws.{order}

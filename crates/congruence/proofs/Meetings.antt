@@ -1,12 +1,12 @@
 -- When two boxes meet, when a group does, and the slide.
-use Rattle.std.proofs.Common.{◌≡◌, ℕ, ◌+◌, ◌*◌, ◌/◌, ◌%◌, ◌<◌, List, [], ◌∷◌, sym, refl, ap, ◌∙◌, subst, mod-eq_of_lt, arith}
+use Rattle.std.proofs.Common.{◌≡◌, ℕ, ◌+◌, ◌*◌, ◌/◌, ◌%◌, List, [], ◌∷◌, sym, ap, ◌∙◌, subst, mod-eq_of_lt, arith}
 use Prim.Native.Nat.{◌∣◌}
 use native.Mathlib.Nat.{add-mul-mod_self_left, dvd-mul_right_of_dvd, mod-add-div, mul-div_cancel'}
 use Rattle.std.specs.List.{AllByRecursion as All}
 use Rattle.std.proofs.ByRecursion.{All-weaker}
 use Rattle.congruence.specs.declared.clocks.Clock.{Clock}
 use Rattle.congruence.specs.Divisors.{IsGcd}
-use Rattle.congruence.specs.Clocks.{Valid, Due, Meet, EachTwoMeet, periods, apart, MeetByGcd, MeetByPairs, Slide}
+use Rattle.congruence.specs.Clocks.{Valid, Due, Meet, EachTwoMeet, periods, MeetByGcd, MeetByPairs, Slide}
 use Rattle.congruence.proofs.Euclid.{euclid, euclid_gcd}
 use Rattle.congruence.proofs.Links.{Link, link_from, link_from_gcd, gcd_from_link, link_move, common}
 

@@ -1,5 +1,5 @@
 -- The ticks that a group has in common, and what one more box leaves of them.
-use Rattle.std.proofs.Common.{◌≡◌, ℕ, ◌+◌, ◌-◌, ◌*◌, ◌/◌, ◌%◌, ◌<◌, ◌≤◌, List, [], ◌∷◌, ◌++◌, sym, refl, ap, ◌∙◌, subst, ⊎_elim, mul-le-mul_right, mod-lt, mod-eq_of_lt, div-lt_iff_lt-mul, arith}
+use Rattle.std.proofs.Common.{◌≡◌, ℕ, ◌+◌, ◌-◌, ◌*◌, ◌/◌, ◌%◌, ◌<◌, ◌≤◌, List, [], ◌∷◌, ◌++◌, sym, ap, ◌∙◌, subst, ⊎_elim, mul-le-mul_right, mod-lt, mod-eq_of_lt, div-lt_iff_lt-mul, arith}
 use Prim.Native.Nat.{◌∣◌}
 use native.Mathlib.Nat.{add-mul-mod_self_left, div-mul_cancel, dvd-mul_left_of_dvd, dvd-mul_right, dvd-sub, le_of_dvd, mod-add-div, mod-mod_of_dvd, mod-one}
 use Rattle.std.specs.List.{AllByRecursion as All}

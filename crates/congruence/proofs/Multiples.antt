@@ -1,12 +1,12 @@
 -- Least common multiples of lists.
-use Rattle.std.proofs.Common.{◌≡◌, ℕ, ◌+◌, ◌*◌, ◌<◌, ◌≤◌, List, [], ◌∷◌, ◌++◌, length, get_or, take, sym, refl, ap, ◌∙◌, subst, ⊎_elim, mul-pos, arith}
+use Rattle.std.proofs.Common.{◌≡◌, ℕ, ◌+◌, ◌*◌, ◌<◌, ◌≤◌, List, [], ◌∷◌, ◌++◌, length, get_or, take, sym, subst, ⊎_elim, mul-pos, arith}
 use Prim.Native.Nat.{◌∣◌}
 use native.Mathlib.Nat.{dvd-mul_left, dvd-mul_right, dvd_refl, dvd_trans, dvd-zero, le_of_dvd, one-dvd, pos_of_dvd_of_pos}
 use Rattle.std.specs.List.{ContainsAt as Has, AllByRecursion as All}
 use Rattle.std.proofs.ByRecursion.{All-append, All-from_get_or, all-has, All-take, All-weaker, has_get_or}
 use Rattle.std.proofs.lemmas.List.{take_more}
 use Rattle.std.proofs.lemmas.Bool.{cases_lt}
-use Rattle.congruence.specs.Divisors.{IsLcm, LcmBeyond, bound}
+use Rattle.congruence.specs.Divisors.{IsLcm, LcmBeyond}
 use Rattle.congruence.proofs.Euclid.{euclid, euclid_lcm}
 
 pub all_split : {X : Type 0} (P : X → Type 0) (xs ys : List X) → All P (xs ++ ys) → All P xs × All P ys

@@ -1,5 +1,5 @@
 -- How a group is judged front to back: what is left of it, and what has been seen.
-use Rattle.std.proofs.Common.{◌≡◌, ℕ, List, [], ◌∷◌, sym, subst}
+use Rattle.std.proofs.Common.{ℕ, List, [], ◌∷◌}
 use Rattle.std.specs.List.{AllByRecursion as All}
 use Rattle.std.proofs.ByRecursion.{All-weaker}
 use Rattle.congruence.specs.declared.clocks.Clock.{Clock}

@@ -1,5 +1,5 @@
 -- Masks bit by bit.
-use Rattle.std.proofs.Common.{◌≡◌, ℕ, zero, suc, ◌+◌, ◌-◌, ◌*◌, ◌/◌, ◌%◌, ◌^◌, ◌<◌, ◌≤◌, min, max, Bool, true, false, not, ◌&&◌, ◌||◌, eqb, sym, refl, ap, ◌∙◌, subst, ⊎_elim, lt_of_lt_of_le, mod-lt, mul_comm, pow-suc, div-one, arith, pow_pos, pow_mono}
+use Rattle.std.proofs.Common.{◌≡◌, ℕ, zero, suc, ◌-◌, ◌/◌, ◌%◌, ◌^◌, ◌<◌, ◌≤◌, min, max, Bool, true, false, not, ◌&&◌, ◌||◌, eqb, sym, refl, ap, ◌∙◌, subst, ⊎_elim, lt_of_lt_of_le, mod-lt, mul_comm, pow-suc, div-one, arith, pow_pos, pow_mono}
 use native.Mathlib.Nat.{div-div-eq-div-mul, div-eq_of_lt, zero-div}
 use lib.Bits.{bit_and, bit_or, and_step, or_step}
 use lib.Count.{count_trailing_zeros, under}

@@ -1,15 +1,13 @@
 -- The factor of a period, box by box.
-use Rattle.std.proofs.Common.{◌≡◌, ℕ, ◌<◌, ◌≤◌, List, [], ◌∷◌, ◌++◌, Some, None, Option, sym, refl, ap, ◌∙◌, subst, append-nil}
+use Rattle.std.proofs.Common.{ℕ, ◌<◌, ◌≤◌, List, [], ◌∷◌, ◌++◌, subst}
 use Prim.Native.Nat.{◌∣◌}
 use native.Mathlib.Nat.{dvd_trans, one-dvd, pos_of_dvd_of_pos, le_of_dvd}
 use Rattle.std.specs.List.{AllByRecursion as All}
-use Rattle.std.proofs.ByRecursion.{All-append, All-weaker, All-from_get_or}
+use Rattle.std.proofs.ByRecursion.{All-append, All-weaker}
 use Rattle.congruence.specs.Divisors.{IsGcd, IsLcm}
 use Rattle.congruence.proofs.Euclid.{gcd_unique}
 use Rattle.congruence.proofs.Multiples.{all_split}
-use Rattle.draws.specs.declared.draw.Draw.{Draw}
-use Rattle.draws.specs.Draws.{Places, periods_of}
-use Rattle.draws.specs.Factors.{Factor, Multiple}
+use Rattle.draws.specs.Factors.{Factor}
 
 pub factor_none : (p : ℕ) → Factor [] p 1
 factor_none p = record { multiple = tt; least = λ k all. one-dvd k }

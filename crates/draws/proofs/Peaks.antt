@@ -1,10 +1,10 @@
 -- Lists with more boxes, and the peak of a list.
-use Rattle.std.proofs.Common.{◌≡◌, ℕ, suc, ◌+◌, ◌<◌, ◌≤◌, Bool, true, false, cond, List, [], ◌∷◌, length, get_or, Some, None, Option, sym, refl, ap, ◌∙◌, subst, mod-eq_of_lt, arith}
+use Rattle.std.proofs.Common.{◌≡◌, ℕ, suc, ◌+◌, ◌<◌, ◌≤◌, Bool, true, false, cond, [], ◌∷◌, length, get_or, Some, None, Option, sym, refl, ap, ◌∙◌, subst, mod-eq_of_lt, arith}
 use Rattle.std.proofs.lemmas.Bool.{eq-eqb, eqb-true, false≢true}
 use Rattle.congruence.specs.Clocks.{Valid}
 use Rattle.load.specs.Kinds.{Kind, Laws}
 use Rattle.draws.specs.declared.draw.Draw.{Draw}
-use Rattle.draws.specs.Draws.{Found, Passes, Peak, Places, Reaches, at_tick, bit, drawing, due, load_of, measured, total}
+use Rattle.draws.specs.Draws.{Found, Peak, Places, Reaches, at_tick, bit, drawing, due, load_of, total}
 use Rattle.draws.proofs.Totals.{measured_grows, only, total_only}
 
 -- every box of the first list stands in the second

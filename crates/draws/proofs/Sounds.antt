@@ -1,5 +1,5 @@
 -- What the ranges of a list give.
-use Rattle.std.proofs.Common.{◌≡◌, ℕ, ◌<◌, ◌≤◌, Bool, true, false, cond, not, ◌&&◌, ltb, leb, length, get_or, is_some, Some, None, Option, sym, refl, ap, ◌∙◌, subst, ⊎_elim, arith}
+use Rattle.std.proofs.Common.{◌≡◌, ℕ, Bool, true, false, cond, not, ◌&&◌, ltb, leb, get_or, is_some, Some, None, sym, refl, ap, ◌∙◌, ⊎_elim, arith}
 use Rattle.std.proofs.lemmas.List.{get_or_past}
 use Rattle.std.proofs.lemmas.Bool.{and_from, and_parts, cases_lt, cond-true, false≢true, le-leb, leb-true, lt-ltb, ltb-true}
 use Rattle.congruence.specs.Clocks.{Valid}
@@ -7,7 +7,6 @@ use Rattle.draws.specs.declared.draw.Draw.{Draw}
 use Rattle.draws.specs.declared.list.DrawList.{DrawList}
 use Rattle.load.specs.Ratings.{in_range}
 use Rattle.draws.specs.Checks.{draw_fault, sound}
-use Rattle.draws.specs.Draws.{Places}
 use Rattle.draws.proofs.Cliques.{AllValid, none_some}
 
 -- no check of three fails

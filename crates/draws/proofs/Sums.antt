@@ -1,7 +1,7 @@
 -- The load of a mask, place by place from the lowest bit up.
 use Rattle.std.proofs.Common.{◌≡◌, ℕ, ◌-◌, ◌^◌, ◌<◌, ◌≤◌, Bool, true, false, not, ◌&&◌, ◌||◌, eqb, length, get_or, None, sym, refl, ap, ◌∙◌, subst, arith}
 use lib.Bits.{bit_and, and_le_r}
-use Rattle.std.proofs.lemmas.Bool.{and_parts, cases_Bool, eqb-true, false≢true, true≢false}
+use Rattle.std.proofs.lemmas.Bool.{and_parts, eqb-true, false≢true}
 use Rattle.load.specs.Kinds.{Kind, Laws}
 use Rattle.draws.specs.Draws.{Places, bit, load_of, total}
 use Rattle.draws.proofs.Bits.{Lowest, bit_of_and, bit_none}

@@ -1,5 +1,5 @@
 -- What a list refuses.
-use Rattle.std.specs.Prelude.{ℕ, [], ◌∷◌, ◌++◌, Option, nat_lt}
+use Rattle.std.specs.Prelude.{ℕ, ◌∷◌, Option, nat_lt}
 use Rattle.congruence.specs.declared.refusals.Refusal.{Refusal}
 use Rattle.congruence.specs.declared.refusals.Refusal.TheVariants.{SocketOutOfRange}
 use Rattle.congruence.specs.Refusals.{Check, first_failed}

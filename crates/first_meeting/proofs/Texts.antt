@@ -1,5 +1,5 @@
 -- A line more of a record.
-use Rattle.std.proofs.Common.{◌≡◌, ℕ, ◌+◌, ◌<◌, List, [], ◌∷◌, ◌++◌, length, get_or, take, sym, refl, ap, ◌∙◌, subst, inl, inr, append_assoc, append-nil, add-one, arith}
+use Rattle.std.proofs.Common.{◌≡◌, ℕ, ◌+◌, ◌<◌, List, [], ◌∷◌, ◌++◌, length, get_or, take, sym, refl, ap, ◌∙◌, inl, inr, append_assoc, append-nil, add-one, arith}
 use Rattle.std.proofs.lemmas.List.{length-take-le, take_more}
 use Rattle.congruence.specs.declared.clocks.Clock.{Clock}
 use Rattle.first_meeting.specs.Records.{box_line, box_lines, pair_line, Meets, PairsWith, Pairs}

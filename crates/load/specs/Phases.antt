@@ -1,7 +1,6 @@
 -- Three phases.
 use Rattle.std.specs.Prelude.{cond, ℕ, ◌+◌, max}
 use Rattle.load.specs.declared.phases.Phases.{Phases}
-use Rattle.load.specs.declared.rating.Rating.{Rating}
 use Rattle.load.specs.Kinds.{Kind, if_fits}
 use Rattle.load.specs.Ratings.{in_range}
 

@@ -1,6 +1,5 @@
 -- A reduced list has the pairs that meet and the loads of the list itself, and so its peak.
-use Rattle.std.proofs.Common.{◌≡◌, ℕ, zero, suc, ◌<◌, ◌≤◌, Bool, true, cond, [], ◌∷◌, length, get_or, Some, None, Ok, Err, Option, Result, sym, refl, ap, ◌∙◌, subst, ⊎_elim, mod-eq_of_lt, arith}
-use Prim.Native.Nat.{◌∣◌}
+use Rattle.std.proofs.Common.{◌≡◌, ℕ, suc, ◌<◌, Bool, cond, [], ◌∷◌, length, get_or, Some, None, Ok, Err, Option, Result, sym, refl, ap, ◌∙◌, subst, ⊎_elim, mod-eq_of_lt, arith}
 use native.Mathlib.Nat.{dvd_antisymm}
 use Rattle.std.proofs.lemmas.List.{ext_get_or, get_or_past}
 use Rattle.std.proofs.lemmas.Bool.{cases_eq, cases_lt}
@@ -13,7 +12,7 @@ use Rattle.draws.specs.Meetings.{EachTwo, MeetAt}
 use Rattle.draws.proofs.Cliques.{AllValid, drawing_pairs, none_some, pairs_from_together, together_from_pairs}
 use Rattle.draws.proofs.Totals.{measured_grows}
 use Rattle.finder.specs.Finders.{Answered}
-use Rattle.reduce.specs.Reductions.{Factor, Reduced, ReducedAt, shortened}
+use Rattle.reduce.specs.Reductions.{Reduced, ReducedAt, shortened}
 use Rattle.reduce.proofs.Meetings.{meet_lengthened, meet_shortened}
 
 -- a place is reduced in one way only

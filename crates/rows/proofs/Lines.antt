@@ -1,5 +1,5 @@
 -- A word more of a line, and what stands before a comment.
-use Rattle.std.proofs.Common.{◌≡◌, ℕ, suc, ◌+◌, ◌<◌, ◌≤◌, true, false, cond, eqb, List, [], ◌∷◌, ◌++◌, map, length, get_or, Ok, Err, sym, refl, ap, ◌∙◌, subst, append_assoc, append-nil, arith}
+use Rattle.std.proofs.Common.{◌≡◌, ℕ, suc, ◌+◌, ◌<◌, ◌≤◌, false, eqb, List, [], ◌∷◌, ◌++◌, map, length, get_or, Ok, Err, sym, refl, ap, ◌∙◌, subst, append_assoc, append-nil, arith}
 use Rattle.std.specs.Char.{is_whitespace, is_not_whitespace}
 use Rattle.std.specs.Str.{NoCharPasses, EmptyOrStartsWithPassing}
 use Rattle.std.specs.List.{AllByRecursion as All}
@@ -10,7 +10,7 @@ use Rattle.std.specs.Str.Lines.{IsFirstLine}
 use Rattle.rows.specs.declared.Row.{Row}
 use Rattle.rows.specs.declared.RowsFault.{RowsFault}
 use Rattle.rows.specs.declared.RowsFault.TheVariants.{BadLine, TooManyRows, Memory}
-use Rattle.rows.specs.Rows.{before, FirstWord, Words, IsNumber, number_of, Numbers, Lines, Said, said, Gives, Rows, Adds, Reads, UpTo}
+use Rattle.rows.specs.Rows.{before, FirstWord, Words, IsNumber, number_of, Lines, Said, said, Gives, Rows, Adds, Reads, UpTo}
 
 -- the byte c is not in bs
 abbrev pub Lacks : ℕ → List ℕ → Type 0

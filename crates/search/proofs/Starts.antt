@@ -1,11 +1,9 @@
 -- Where a search begins, and what its end says.
-use Rattle.std.proofs.Common.{◌≡◌, ℕ, ◌^◌, ◌<◌, ◌≤◌, Bool, true, false, ◌||◌, length, get_or, Some, None, Option, sym, refl, ap, ◌∙◌, subst, ⊎_elim, arith}
+use Rattle.std.proofs.Common.{◌≡◌, ℕ, ◌<◌, ◌≤◌, true, length, None, sym, ap, ◌∙◌, ⊎_elim, arith}
 use Rattle.std.proofs.lemmas.List.{get_or_past}
 use Rattle.std.proofs.lemmas.Bool.{cases_lt, false≢true, or_right}
 use Rattle.load.specs.Kinds.{Kind, Laws}
-use Rattle.draws.specs.declared.draw.Draw.{Draw}
-use Rattle.draws.specs.Draws.{Found, Places, bit, drawing, due, measured, total}
-use Rattle.draws.specs.Meetings.{EachTwo, MeetAt}
+use Rattle.draws.specs.Draws.{Found, Places, bit, drawing, due, measured}
 use Rattle.draws.proofs.Bits.{bit_none}
 use Rattle.draws.proofs.Cliques.{AllValid, drawing_pairs, together_from_pairs}
 use Rattle.draws.proofs.Totals.{total_none}

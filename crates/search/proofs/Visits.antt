@@ -1,11 +1,11 @@
 -- One step of a search: what a branch may be cut for, and that with the next place and without it nothing is missed.
-use Rattle.std.proofs.Common.{◌≡◌, ℕ, ◌-◌, ◌^◌, ◌<◌, ◌≤◌, Bool, true, false, not, ◌&&◌, ◌||◌, eqb, ◌⊎◌, length, get_or, Some, None, Option, sym, refl, ap, ◌∙◌, subst, inl, inr, ⊎_elim, arith}
-use lib.Bits.{bit_and, bit_or, and_le_l, and_le_r, or_lt}
+use Rattle.std.proofs.Common.{◌≡◌, ℕ, ◌-◌, ◌^◌, ◌≤◌, Bool, true, false, not, ◌&&◌, ◌||◌, eqb, ◌⊎◌, length, get_or, Some, None, Option, sym, refl, ap, ◌∙◌, subst, inl, inr, ⊎_elim, arith}
+use lib.Bits.{bit_and, bit_or, and_le_l, or_lt}
 use lib.Pow.{pow-lt}
 use Rattle.std.proofs.lemmas.Bool.{and_from, and_parts, cases_Bool, cases_eq, eq-eqb, eqb-true, false≢true, ne_eqb, not_from_false, or_cases, or_from, or_left, or_right, true≢false}
 use Rattle.load.specs.Kinds.{Kind, Laws}
 use Rattle.draws.specs.declared.draw.Draw.{Draw}
-use Rattle.draws.specs.Draws.{Places, bit, load_of, measured, total}
+use Rattle.draws.specs.Draws.{Places, bit, load_of, total}
 use Rattle.draws.specs.Meetings.{EachTwo, MeetAt}
 use Rattle.draws.proofs.Bits.{Lowest, bit_of_and, bit_below, bit_none, bit_of_or, bit_power}
 use Rattle.draws.proofs.Sums.{bit_cleared}

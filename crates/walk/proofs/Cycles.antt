@@ -1,12 +1,11 @@
 -- The cycle of a list, place by place.
-use Rattle.std.proofs.Common.{◌≡◌, ℕ, suc, ◌+◌, ◌<◌, ◌≤◌, List, [], ◌∷◌, ◌++◌, length, get_or, take, drop, Some, None, Option, sym, refl, ap, ◌∙◌, subst, arith, take-append-drop}
+use Rattle.std.proofs.Common.{ℕ, ◌+◌, ◌<◌, ◌≤◌, List, [], ◌∷◌, ◌++◌, length, get_or, take, drop, None, sym, ap, ◌∙◌, subst, arith, take-append-drop}
 use Prim.Native.Nat.{◌∣◌}
 use native.Mathlib.Nat.{dvd_trans, le_of_dvd, pos_of_dvd_of_pos}
 use Rattle.std.specs.List.{AllByRecursion as All}
 use Rattle.std.proofs.ByRecursion.{All-append, All-weaker}
 use Rattle.congruence.specs.Divisors.{IsLcm}
-use Rattle.congruence.proofs.Multiples.{all_split, lcm_exists, lcm_none}
-use Rattle.draws.specs.declared.draw.Draw.{Draw}
+use Rattle.congruence.proofs.Multiples.{all_split, lcm_exists}
 use Rattle.draws.specs.Draws.{Places, periods_of}
 use Rattle.draws.proofs.Cliques.{AllValid}
 use Rattle.draws.proofs.Periods.{periods_all, periods_append, periods_more}

@@ -1,13 +1,12 @@
 -- The ticks that were gone through, and all others.
-use Rattle.std.proofs.Common.{◌≡◌, ℕ, zero, suc, ◌+◌, ◌%◌, ◌<◌, ◌≤◌, Bool, true, false, eqb, List, [], ◌∷◌, length, get_or, Some, None, Option, sym, refl, ap, ◌∙◌, subst, ⊎_elim, mod-lt, arith}
+use Rattle.std.proofs.Common.{◌≡◌, ℕ, zero, suc, ◌+◌, ◌%◌, ◌<◌, ◌≤◌, true, eqb, [], ◌∷◌, length, Some, None, sym, refl, ap, ◌∙◌, subst, ⊎_elim, mod-lt, arith}
 use Prim.Native.Nat.{◌∣◌}
 use native.Mathlib.Nat.{mod-mod_of_dvd}
 use Rattle.std.specs.List.{AllByRecursion as All}
-use Rattle.std.proofs.lemmas.Bool.{cases_Bool, cases_lt, false≢true, true≢false}
+use Rattle.std.proofs.lemmas.Bool.{cases_lt, false≢true}
 use Rattle.load.specs.Kinds.{Kind, Laws}
 use Rattle.congruence.specs.Divisors.{IsLcm}
-use Rattle.draws.specs.declared.draw.Draw.{Draw}
-use Rattle.draws.specs.Draws.{Found, Places, at_tick, bit, drawing, due, measured, periods_of, total}
+use Rattle.draws.specs.Draws.{Found, Places, at_tick, bit, drawing, measured, periods_of, total}
 use Rattle.draws.specs.Masks.{Names}
 use Rattle.draws.proofs.Bits.{bit_none, same_test}
 use Rattle.draws.proofs.Totals.{total_below, total_none, total_same}

@@ -1,8 +1,8 @@
-use Rattle.std.proofs.Common.{◌≡◌, ◌<◌, length, vec_items, sym, refl, ap, ◌∙◌, subst, arith}
+use Rattle.std.proofs.Common.{◌<◌, length, vec_items, subst, arith}
 use Rattle.std.proofs.lemmas.List.{nil_from_length}
 use Rattle.std.proofs.lemmas.Result.{err_from_is_err_and}
 use Rattle.std.specs.Str.Iter.{lines_rest}
-use Rattle.rows.specs.Rows.{Adds, Lines, Reads}
+use Rattle.rows.specs.Rows.{Lines}
 use Rattle.rows.proofs.Lines.{read_more, read_fault}
 use Rattle.rows.proofs.read_rows.Goals as goal
 

@@ -1,4 +1,4 @@
-use Rattle.std.proofs.Common.{◌+◌, ◌<◌, [], ◌∷◌, length, get_or, None, sym, ◌∙◌, subst, arith}
+use Rattle.std.proofs.Common.{◌+◌, ◌<◌, [], ◌∷◌, length, None, subst, arith}
 use Rattle.std.proofs.lemmas.List.{take_all}
 use Rattle.congruence.specs.Divisors.{IsLcm}
 use Rattle.congruence.proofs.Multiples.{lcm_none}

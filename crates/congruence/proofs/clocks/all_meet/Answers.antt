@@ -1,4 +1,4 @@
-use Rattle.std.proofs.Common.{◌≡◌, ◌+◌, true, ◌∷◌, get_or, drop, Decides, sym, refl, subst}
+use Rattle.std.proofs.Common.{◌+◌, ◌∷◌, get_or, drop, Decides, refl, subst}
 use Rattle.std.proofs.lemmas.List.{drop_all, drop_more, take_rest}
 use Rattle.std.proofs.lemmas.Bool.{both_ways, false≢true}
 use Rattle.congruence.specs.declared.clocks.Clock.{Clock}

@@ -1,4 +1,4 @@
-use Rattle.std.proofs.Common.{◌≡◌, ◌*◌, ◌/◌, ◌<◌, ◌≤◌, [], ◌∷◌, sym, subst, arith}
+use Rattle.std.proofs.Common.{◌*◌, ◌/◌, ◌<◌, [], ◌∷◌, arith}
 use native.Mathlib.Nat.{pos_of_dvd_of_pos}
 use Rattle.congruence.specs.Divisors.{IsLcm}
 use Rattle.congruence.proofs.Euclid.{lcm_zero, gcd_lcm}

@@ -1,4 +1,4 @@
-use Rattle.std.proofs.Common.{◌+◌, eqb, Decides, sym, subst, arith}
+use Rattle.std.proofs.Common.{◌+◌, eqb, Decides, subst, arith}
 use Rattle.std.specs.List.{ContainsAt as Has}
 use Rattle.std.proofs.lemmas.List.Elements.{contains_decides}
 use Rattle.std.proofs.lemmas.List.{take_all}

@@ -1,4 +1,4 @@
-use Rattle.std.proofs.Common.{◌<◌, take}
+use Rattle.std.proofs.Common.{take}
 use Rattle.congruence.specs.Divisors.{LcmWithin}
 use Rattle.congruence.proofs.numbers.lcm_of.Given as goal
 

@@ -1,4 +1,4 @@
-use Rattle.std.proofs.Common.{◌≡◌, ◌+◌, ◌<◌, ◌≤◌, [], ◌∷◌, ◌++◌, length, take, sym, ap, ◌∙◌, subst, arith}
+use Rattle.std.proofs.Common.{◌<◌, ◌≤◌, [], ◌∷◌, ◌++◌, take, sym, subst, arith}
 use native.Mathlib.Nat.{le_of_dvd, one-dvd}
 use Rattle.std.proofs.lemmas.List.{take_all}
 use Rattle.draws.specs.Draws.{periods_of}

@@ -1,7 +1,6 @@
-use Rattle.std.proofs.Common.{◌≡◌, ◌≤◌, List, [], ◌∷◌, ◌++◌, sym, ap, ◌∙◌, subst, append-nil, arith}
-use Prim.Native.Nat.{◌∣◌}
+use Rattle.std.proofs.Common.{◌≤◌, [], ◌∷◌, ◌++◌, sym, subst, append-nil, arith}
 use native.Mathlib.Nat.{le_of_dvd}
-use Rattle.congruence.specs.Divisors.{IsGcd, IsLcm}
+use Rattle.congruence.specs.Divisors.{IsGcd}
 use Rattle.draws.specs.Draws.{periods_of}
 use Rattle.draws.specs.Factors.{Factor}
 use Rattle.draws.proofs.Factoring.{factor_push}

@@ -1,8 +1,7 @@
-use Rattle.std.proofs.Common.{◌≡◌, ℕ, ◌<◌, List, [], ◌∷◌, map, length, Err, vec_items, string_bytes, sym, refl, ap, ◌∙◌, subst, arith}
+use Rattle.std.proofs.Common.{◌≡◌, ◌<◌, List, [], ◌∷◌, map, length, Err, vec_items, string_bytes, sym, refl, ap, ◌∙◌, subst, arith}
 use Rattle.std.proofs.lemmas.List.{get_or-map, length-map}
 use Rattle.rows.specs.declared.Row.{Row}
-use Rattle.rows.specs.Rows.{Said, said}
-use Rattle.congruence.specs.declared.clocks.Clock.{Clock}
+use Rattle.rows.specs.Rows.{said}
 use Rattle.congruence.specs.FirstTicks.{Answer, Refused}
 use Rattle.first_meeting.specs.Meetings.{box_fault, clock_said, clocks_said, HasRows, Meeting}
 use Rattle.first_meeting.specs.Records.{Record}

@@ -1,6 +1,6 @@
 use Rattle.std.proofs.Common.{string_bytes, ◌∙◌, subst, MatchOption}
 use Rattle.congruence.specs.Divisors.{LcmBeyond, LcmWithin}
-use Rattle.first_meeting.specs.Records.{Record, box_lines, cycle_line, tick_line}
+use Rattle.first_meeting.specs.Records.{box_lines, cycle_line, tick_line}
 use Rattle.first_meeting.proofs.Texts.{record_text}
 use Rattle.first_meeting.proofs.record.meeting_record.Goals as goal
 

@@ -1,6 +1,5 @@
-use Rattle.std.proofs.Common.{◌≡◌, List, ◌++◌, string_bytes, sym, refl, ap, ◌∙◌}
+use Rattle.std.proofs.Common.{string_bytes, refl, ap, ◌∙◌}
 use Rattle.std.proofs.lemmas.Bool.Decides.{not_from_Decides}
-use Rattle.first_meeting.specs.Records.{pair_line}
 use Rattle.first_meeting.proofs.Texts.{appended, pairs_with_apart, pairs_with_met}
 use Rattle.first_meeting.proofs.record.push_pairs.Goals as goal
 use Rattle.first_meeting.proofs.record.push_pairs.Goals.{then-not-meets+in_ok-pair_line+in_ok-push_str, else-not-meets}

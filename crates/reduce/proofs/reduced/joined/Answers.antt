@@ -1,7 +1,6 @@
-use Rattle.std.proofs.Common.{◌≡◌, ◌≤◌, [], ◌∷◌, sym, ap, ◌∙◌, subst, inl, inr, arith}
-use Prim.Native.Nat.{◌∣◌}
+use Rattle.std.proofs.Common.{◌≤◌, sym, ◌∙◌, inl, inr, arith}
 use native.Mathlib.Nat.{le_of_dvd}
-use Rattle.congruence.specs.Divisors.{IsGcd, IsLcm}
+use Rattle.congruence.specs.Divisors.{IsGcd}
 use Rattle.reduce.proofs.Factors.{factor_more, factor_skip}
 use Rattle.reduce.proofs.reduced.joined.Goals as goal
 use Rattle.reduce.proofs.reduced.joined.Goals.{After-lcm}

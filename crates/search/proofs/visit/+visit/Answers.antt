@@ -1,10 +1,10 @@
-use Rattle.std.proofs.Common.{◌≡◌, ℕ, ◌-◌, ◌*◌, ◌%◌, ◌^◌, ◌<◌, ◌≤◌, length, get_or, None, sym, refl, ap, ◌∙◌, subst, ⊎_elim, arith, rules}
+use Rattle.std.proofs.Common.{◌≡◌, ℕ, ◌-◌, ◌*◌, ◌%◌, ◌^◌, ◌≤◌, length, get_or, None, sym, ap, ◌∙◌, subst, ⊎_elim, arith}
 use lib.Bits.{bit_and, bit_or, and_le_l, and_le_r}
 use lib.Count.{count_trailing_zeros}
 use Rattle.std.proofs.lemmas.Nat.{one_shl}
 use Rattle.draws.specs.Draws.{load_of}
 use Rattle.draws.proofs.Bits.{Lowest, lowest_of}
-use Rattle.search.specs.Visits.{Node, Reached, Row, Visited}
+use Rattle.search.specs.Visits.{Node, Reached, Visited}
 use Rattle.search.proofs.Visits.{behind, with_place, node_with, node_without, reached_with, visited_both, visited_cut, visited_none}
 use Rattle.search.proofs.visit.+visit.Given as given
 use Rattle.search.proofs.visit.+visit.Goals as goal

@@ -1,4 +1,4 @@
-use Rattle.std.proofs.Common.{not, is_some, None, sym, refl, ap, ◌∙◌, arith}
+use Rattle.std.proofs.Common.{not, is_some, None, sym, ap, ◌∙◌, arith}
 use Rattle.std.proofs.lemmas.List.{length-set}
 use Rattle.draws.specs.Checks.{sound}
 use Rattle.draws.proofs.Sets.{set_ranges}
