@@ -1,7 +1,7 @@
 -- From the boxes merged so far to the whole group.
 use Rattle.std.proofs.Common.{ℕ, ◌+◌, ◌<◌, ◌≤◌, List, [], ◌∷◌, ◌++◌, length, get_or, take, sym, subst, arith}
 use native.Mathlib.Nat.{mod-le}
-use Rattle.std.specs.List.{AllByRecursion as All}
+use Rattle.std.specs.List.{AllByRecursion}
 use Rattle.std.proofs.ByRecursion.{All-map, All-take, All-weaker}
 use Rattle.std.proofs.lemmas.List.{take-map, take_more}
 use Rattle.congruence.specs.declared.clocks.Clock.{Clock}
@@ -16,10 +16,10 @@ use Rattle.congruence.proofs.Multiples.{lcm_beyond_front}
 pub merges_next : (cs : List Clock) (i : ℕ) (d : Clock) (r : MergeResult) → i < length cs → Merges (take i cs ++ get_or cs i d ∷ []) r → Merges (take (i + 1) cs) r
 merges_next cs i d r within h = subst (λ l. Merges l r) (sym (take_more cs i d within)) h
 
-pub none_of_all : (n : ℕ) (cs : List Clock) → ((t : ℕ) → All (Due t) (take n cs) → ⊥) → (t : ℕ) → All (Due t) cs → ⊥
+pub none_of_all : (n : ℕ) (cs : List Clock) → ((t : ℕ) → AllByRecursion (Due t) (take n cs) → ⊥) → (t : ℕ) → AllByRecursion (Due t) cs → ⊥
 none_of_all n cs none t h = none t (All-take (Due t) n cs h)
 
-pub beyond_of_all : (n : ℕ) (cs : List Clock) → All Valid cs → LcmBeyond (periods (take n cs)) → LcmBeyond (periods cs)
+pub beyond_of_all : (n : ℕ) (cs : List Clock) → AllByRecursion Valid cs → LcmBeyond (periods (take n cs)) → LcmBeyond (periods cs)
 beyond_of_all n cs valid h =
     let some = All-map (λ p. 0 < p) (λ c. c.period) cs (All-weaker Valid (λ c. 0 < c.period) (λ c v. v.some) cs valid) in
     lcm_beyond_front n (periods cs) some (subst LcmBeyond (sym (take-map (λ c. c.period) n cs)) h)

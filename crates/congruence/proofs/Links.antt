@@ -2,7 +2,7 @@
 use Rattle.std.proofs.Common.{◌≡◌, ℕ, zero, suc, ◌+◌, ◌*◌, ◌/◌, ◌%◌, ◌<◌, List, [], ◌∷◌, sym, refl, ap, ◌∙◌, subst, ⊎_elim, arith}
 use Prim.Native.Nat.{◌∣◌}
 use native.Mathlib.Nat.{add-mul-mod_self_left, dvd-add, dvd-mul_right_of_dvd, dvd_refl, dvd-sub, mul-div_cancel'}
-use Rattle.std.specs.List.{AllByRecursion as All}
+use Rattle.std.specs.List.{AllByRecursion}
 use Rattle.std.proofs.ByRecursion.{All-weaker}
 use Rattle.std.proofs.str.Laws.{order}
 use Rattle.congruence.specs.Divisors.{IsGcd}
@@ -116,8 +116,8 @@ module _ {m q u v : ℕ} where
 -- a common multiple of a list of periods, modulo which agreements modulo each of them join
 pub record Common (ps : List ℕ) : Type 0 where
   pub m : ℕ
-  pub multiple : All (λ p. p ∣ m) ps
-  pub joins : (q u v : ℕ) → All (λ p. Link p q u v) ps → Link m q u v
+  pub multiple : AllByRecursion (λ p. p ∣ m) ps
+  pub joins : (q u v : ℕ) → AllByRecursion (λ p. Link p q u v) ps → Link m q u v
 
 pub common : (ps : List ℕ) → Common ps
 common [] = record {

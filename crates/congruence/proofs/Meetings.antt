@@ -2,7 +2,7 @@
 use Rattle.std.proofs.Common.{◌≡◌, ℕ, ◌+◌, ◌*◌, ◌/◌, ◌%◌, List, [], ◌∷◌, sym, ap, ◌∙◌, subst, mod-eq_of_lt, arith}
 use Prim.Native.Nat.{◌∣◌}
 use native.Mathlib.Nat.{add-mul-mod_self_left, dvd-mul_right_of_dvd, mod-add-div, mul-div_cancel'}
-use Rattle.std.specs.List.{AllByRecursion as All}
+use Rattle.std.specs.List.{AllByRecursion}
 use Rattle.std.proofs.ByRecursion.{All-weaker}
 use Rattle.congruence.specs.declared.clocks.Clock.{Clock}
 use Rattle.congruence.specs.Divisors.{IsGcd}
@@ -40,13 +40,13 @@ meet_by_gcd c d g vc vd s = (
   λ h. link_meet c d vc vd (link_from_gcd s h),
 )
 
-pub pairs_from_tick : (t : ℕ) (cs : List Clock) → All (Due t) cs → EachTwoMeet cs
+pub pairs_from_tick : (t : ℕ) (cs : List Clock) → AllByRecursion (Due t) cs → EachTwoMeet cs
 pairs_from_tick t [] h = tt
 pairs_from_tick t (c ∷ cs) h =
     (All-weaker (Due t) (λ d. Meet (c ∷ (d ∷ []))) (λ d due. (t, (h.0, (due, tt)))) cs h.1, pairs_from_tick t cs h.1)
 
 -- a tick of the group agrees with c as far as each period of the group asks
-links : (t : ℕ) (c : Clock) (cs : List Clock) → All (λ d. Meet (c ∷ (d ∷ []))) cs → All (Due t) cs → All (λ p. Link p c.period t c.wait) (periods cs)
+links : (t : ℕ) (c : Clock) (cs : List Clock) → AllByRecursion (λ d. Meet (c ∷ (d ∷ []))) cs → AllByRecursion (Due t) cs → AllByRecursion (λ p. Link p c.period t c.wait) (periods cs)
 links t c [] ms h = tt
 links t c (d ∷ cs) ms h =
     let m = ms.0 in (
@@ -55,11 +55,11 @@ links t c (d ∷ cs) ms h =
     )
 
 -- a group that is due stays due after a common multiple of its periods
-pub due_more : (t n : ℕ) (cs : List Clock) → All (λ p. p ∣ n) (periods cs) → All (Due t) cs → All (Due (t + n)) cs
+pub due_more : (t n : ℕ) (cs : List Clock) → AllByRecursion (λ p. p ∣ n) (periods cs) → AllByRecursion (Due t) cs → AllByRecursion (Due (t + n)) cs
 due_more t n [] ds h = tt
 due_more t n (c ∷ cs) ds h = (mod_more t n c.period ds.0 ∙ h.0, due_more t n cs ds.1 h.1)
 
-pub tick_from_pairs : (cs : List Clock) → All Valid cs → EachTwoMeet cs → Meet cs
+pub tick_from_pairs : (cs : List Clock) → AllByRecursion Valid cs → EachTwoMeet cs → Meet cs
 tick_from_pairs [] vs ms = (0, tt)
 tick_from_pairs (c ∷ cs) vs ms =
     let rest = tick_from_pairs cs vs.1 ms.1 in

@@ -2,7 +2,7 @@
 use Rattle.std.proofs.Common.{◌≡◌, ℕ, ◌+◌, ◌-◌, ◌*◌, ◌/◌, ◌%◌, ◌<◌, ◌≤◌, List, [], ◌∷◌, ◌++◌, sym, ap, ◌∙◌, subst, ⊎_elim, mul-le-mul_right, mod-lt, mod-eq_of_lt, div-lt_iff_lt-mul, arith}
 use Prim.Native.Nat.{◌∣◌}
 use native.Mathlib.Nat.{add-mul-mod_self_left, div-mul_cancel, dvd-mul_left_of_dvd, dvd-mul_right, dvd-sub, le_of_dvd, mod-add-div, mod-mod_of_dvd, mod-one}
-use Rattle.std.specs.List.{AllByRecursion as All}
+use Rattle.std.specs.List.{AllByRecursion}
 use Rattle.std.proofs.ByRecursion.{All-push, All-weaker}
 use Rattle.std.proofs.lemmas.List.{map_push}
 use Rattle.std.proofs.lemmas.Bool.{cases_lt}
@@ -47,8 +47,8 @@ module _ (cs : List Clock) (tick step next : ℕ) (c : Clock) (so_far : Merged c
   lcm_push = subst (λ ns. IsLcm ns next) (sym (map_push (λ d. d.period) cs c)) (lcm_append so_far.lcm (lcm_one c.period) l)
 
   -- a tick of all, taken modulo next, is one of those tried
-  module _ (some : 0 < next) (t : ℕ) (h : All (Due t) (cs ++ c ∷ [])) where
-    parts : All (Due t) cs × All (Due t) (c ∷ [])
+  module _ (some : 0 < next) (t : ℕ) (h : AllByRecursion (Due t) (cs ++ c ∷ [])) where
+    parts : AllByRecursion (Due t) cs × AllByRecursion (Due t) (c ∷ [])
     parts = all_split (Due t) cs (c ∷ []) h
 
     low : t % next < next
@@ -69,7 +69,7 @@ module _ (cs : List Clock) (tick step next : ℕ) (c : Clock) (so_far : Merged c
           omega (arith, split, on_step),
         )
 
-  pub never : 0 < next → ((k : ℕ) → k < next / step → Due (tick + k * step) c → ⊥) → (t : ℕ) → All (Due t) (cs ++ c ∷ []) → ⊥
+  pub never : 0 < next → ((k : ℕ) → k < next / step → Due (tick + k * step) c → ⊥) → (t : ℕ) → AllByRecursion (Due t) (cs ++ c ∷ []) → ⊥
   never some missed t h =
       let k = tried some t h in
       missed k.0 k.1 (subst (λ n. n % c.period ≡ c.wait) k.2 (on_period some t h))

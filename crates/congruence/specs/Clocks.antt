@@ -1,7 +1,7 @@
 -- When boxes draw, and which of them draw together.
 use Rattle.std.specs.Prelude.{◌≡◌, ℕ, ◌+◌, ◌-◌, ◌%◌, ◌<◌, ◌≤◌, ◌↔◌, List, [], ◌∷◌, map}
 use Rattle.std.specs.Int.{◌∣◌}
-use Rattle.std.specs.List.{AllByRecursion as All}
+use Rattle.std.specs.List.{AllByRecursion}
 use Rattle.congruence.specs.declared.clocks.Clock.{Clock}
 use Rattle.congruence.specs.Divisors.{IsGcd}
 
@@ -17,12 +17,12 @@ Due t c = t % c.period ≡ c.wait
 
 -- some tick has the boxes of a group draw together
 abbrev pub Meet : List Clock → Type 0
-Meet cs = (t : ℕ) × All (Due t) cs
+Meet cs = (t : ℕ) × AllByRecursion (Due t) cs
 
 -- each two boxes of a group meet
 abbrev pub EachTwoMeet : List Clock → Type 0
 EachTwoMeet [] = Unit {0}
-EachTwoMeet (c ∷ cs) = All (λ d. Meet (c ∷ (d ∷ []))) cs × EachTwoMeet cs
+EachTwoMeet (c ∷ cs) = AllByRecursion (λ d. Meet (c ∷ (d ∷ []))) cs × EachTwoMeet cs
 
 abbrev pub periods : List Clock → List ℕ
 periods = map (λ c. c.period)
@@ -36,11 +36,11 @@ MeetByGcd = (c d : Clock) (g : ℕ) → Valid c → Valid d → IsGcd c.period d
 
 -- a group meets at one tick exactly when each two of it meet
 abbrev pub MeetByPairs : Type 0
-MeetByPairs = (cs : List Clock) → All Valid cs → Meet cs ↔ EachTwoMeet cs
+MeetByPairs = (cs : List Clock) → AllByRecursion Valid cs → Meet cs ↔ EachTwoMeet cs
 
 -- Time can be moved by a T that every period of ps divides, so that its clocks stand as they stood, and that moves a
 -- clock of period p by d, if every common divisor of p with one of ps divides d.
 abbrev pub Slide : Type 0
 Slide =
-    (ps : List ℕ) (p d : ℕ) → 0 < p → All (λ q. (g : ℕ) → IsGcd q p g → g ∣ d) ps
-    → (T : ℕ) × All (λ q. q ∣ T) ps × (T % p ≡ d % p)
+    (ps : List ℕ) (p d : ℕ) → 0 < p → AllByRecursion (λ q. (g : ℕ) → IsGcd q p g → g ∣ d) ps
+    → (T : ℕ) × AllByRecursion (λ q. q ∣ T) ps × (T % p ≡ d % p)

@@ -1,7 +1,7 @@
 -- Greatest common divisors and least common multiples, by divisibility alone.
 use Rattle.std.specs.Prelude.{ℕ, ◌<◌, ◌≤◌, List}
 use Rattle.std.specs.Int.{◌∣◌}
-use Rattle.std.specs.List.{AllByRecursion as All}
+use Rattle.std.specs.List.{AllByRecursion}
 
 pub record IsGcd (a b g : ℕ) : Type 0 where
   pub left : g ∣ a
@@ -10,8 +10,8 @@ pub record IsGcd (a b g : ℕ) : Type 0 where
 
 -- m is the least common multiple of the numbers of a list; of no number it is 1
 pub record IsLcm (ns : List ℕ) (m : ℕ) : Type 0 where
-  pub multiple : All (λ n. n ∣ m) ns
-  pub least : (k : ℕ) → All (λ n. n ∣ k) ns → m ∣ k
+  pub multiple : AllByRecursion (λ n. n ∣ m) ns
+  pub least : (k : ℕ) → AllByRecursion (λ n. n ∣ k) ns → m ∣ k
 
 -- the largest multiple that is told
 abbrev pub bound : ℕ

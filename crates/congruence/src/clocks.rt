@@ -1,6 +1,6 @@
 // A box's clock, and which clocks ever have their boxes draw in one tick.
 ghost use Rattle.std.specs.Prelude.{◌≡◌, [], ◌∷◌, Decides, MatchOption, MatchResult};
-ghost use Rattle.std.specs.List.{AllByRecursion as All};
+ghost use Rattle.std.specs.List.{AllByRecursion};
 ghost use Rattle.congruence.specs.Clocks.{Valid, Meet, MeetByGcd, MeetByPairs, Slide};
 ghost use Rattle.congruence.specs.FirstTicks.{Refused};
 ghost use Rattle.congruence.specs.Refusals.{first_failed, clock_checks};
@@ -49,7 +49,7 @@ pub struct RefusedClock {
 
 // Every clock of the list, or the first that no box can have.
 pub fn check_clocks(clocks: &[Clock]) -> Result<(), RefusedClock>
-    ensures { MatchResult result (λ _. All Valid clocks.now) (λ e. Refused clocks.now e) }
+    ensures { MatchResult result (λ _. AllByRecursion Valid clocks.now) (λ e. Refused clocks.now e) }
 {
     for (place, clock) in clocks.iter().enumerate() {
         if let Some(refusal) = clock.fault() {
@@ -73,7 +73,7 @@ pub fn meets(a: Clock, b: Clock) -> bool
 
 // Whether the clock is valid and meets each of the others.
 fn meets_each(clock: Clock, others: &[Clock]) -> bool
-    ensures { Decides result (Valid clock × All (λ d. Valid d × Meet (clock ∷ (d ∷ []))) others.now) }
+    ensures { Decides result (Valid clock × AllByRecursion (λ d. Valid d × Meet (clock ∷ (d ∷ []))) others.now) }
 {
     if !clock.is_valid() {
         return false;
@@ -88,7 +88,7 @@ fn meets_each(clock: Clock, others: &[Clock]) -> bool
 
 // Whether some tick has all of them draw: each two have to meet.
 pub fn all_meet(clocks: &[Clock]) -> bool
-    ensures value { Decides result (All Valid clocks.now × Meet clocks.now) }
+    ensures value { Decides result (AllByRecursion Valid clocks.now × Meet clocks.now) }
     ensures by_pairs { MeetByPairs }
     ensures slide { Slide }
 {

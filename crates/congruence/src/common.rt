@@ -1,7 +1,7 @@
 // The first tick that all boxes of a group share, worked out box by box.
 ghost use Rattle.std.specs.Prelude.{◌<◌, ◌≤◌, List, [], ◌∷◌, ◌++◌};
 ghost use Rattle.congruence.specs.declared.clocks.Clock.{Clock};
-ghost use Rattle.std.specs.List.{AllByRecursion as All};
+ghost use Rattle.std.specs.List.{AllByRecursion};
 ghost use Rattle.congruence.specs.Clocks.{Valid, periods};
 ghost use Rattle.congruence.specs.Divisors.{LcmBeyond, bound};
 ghost use Rattle.congruence.specs.FirstTicks.{Answer, FirstOf};
@@ -74,7 +74,7 @@ pub fn first_common_tick(clocks: &[Clock]) -> Result<FirstTick, RefusedClock>
 
 // What is known of a group whose periods have a multiple too large to go on merging.
 fn past_the_bound(clocks: &[Clock]) -> FirstTick
-    requires valid { All Valid clocks.now }
+    requires valid { AllByRecursion Valid clocks.now }
     requires beyond { LcmBeyond (periods clocks.now) }
     ensures { FirstOf clocks.now result }
 {

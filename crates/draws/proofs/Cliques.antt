@@ -1,6 +1,6 @@
 -- A set of places draws together at some tick exactly when each two of it meet.
 use Rattle.std.proofs.Common.{◌≡◌, ℕ, zero, suc, ◌+◌, Bool, true, false, cond, List, [], ◌∷◌, get_or, Some, None, Option, sym, refl, subst, arith}
-use Rattle.std.specs.List.{AllByRecursion as All}
+use Rattle.std.specs.List.{AllByRecursion}
 use Rattle.std.proofs.lemmas.Bool.{eq-eqb, eqb-true, false≢true}
 use Rattle.congruence.specs.declared.clocks.Clock.{Clock}
 use Rattle.congruence.specs.Clocks.{Valid, Due, Meet, EachTwoMeet}
@@ -30,7 +30,7 @@ module _ (P : Clock → Type 0) (h : ℕ → Bool) where
   unfolding Each
   each_tail s p ps each j d e picked = each (suc j) d e (subst (λ i. h i ≡ true) (omega arith) picked)
 
-  picks_all : (s : ℕ) (ps : Places) → Each s ps → All P (picks h s ps)
+  picks_all : (s : ℕ) (ps : Places) → Each s ps → AllByRecursion P (picks h s ps)
   unfolding Each picks
   picks_all s [] each = tt
   picks_all s (None ∷ ps) each = picks_all (suc s) ps (each_tail s None ps each)
@@ -38,20 +38,20 @@ module _ (P : Clock → Type 0) (h : ℕ → Bool) where
       let rest = picks_all (suc s) ps (each_tail s (Some d) ps each) in
       go (h s) refl rest
     where
-      go : (b : Bool) → h s ≡ b → All P (picks h (suc s) ps) → All P (cond (h s) (d.clock ∷ picks h (suc s) ps) (picks h (suc s) ps))
-      go true e rest = subst (λ b. All P (cond b (d.clock ∷ picks h (suc s) ps) (picks h (suc s) ps))) (sym e) (each 0 d refl (subst (λ i. h i ≡ true) (omega arith) e), rest)
-      go false e rest = subst (λ b. All P (cond b (d.clock ∷ picks h (suc s) ps) (picks h (suc s) ps))) (sym e) rest
+      go : (b : Bool) → h s ≡ b → AllByRecursion P (picks h (suc s) ps) → AllByRecursion P (cond (h s) (d.clock ∷ picks h (suc s) ps) (picks h (suc s) ps))
+      go true e rest = subst (λ b. AllByRecursion P (cond b (d.clock ∷ picks h (suc s) ps) (picks h (suc s) ps))) (sym e) (each 0 d refl (subst (λ i. h i ≡ true) (omega arith) e), rest)
+      go false e rest = subst (λ b. AllByRecursion P (cond b (d.clock ∷ picks h (suc s) ps) (picks h (suc s) ps))) (sym e) rest
 
-  cond_tail : (b : Bool) (c : Clock) (cs : List Clock) → All P (cond b (c ∷ cs) cs) → All P cs
+  cond_tail : (b : Bool) (c : Clock) (cs : List Clock) → AllByRecursion P (cond b (c ∷ cs) cs) → AllByRecursion P cs
   cond_tail true c cs all = all.1
   cond_tail false c cs all = all
 
-  cond_head : (b : Bool) (c : Clock) (cs : List Clock) → b ≡ true → All P (cond b (c ∷ cs) cs) → P c
+  cond_head : (b : Bool) (c : Clock) (cs : List Clock) → b ≡ true → AllByRecursion P (cond b (c ∷ cs) cs) → P c
   cond_head true c cs e all = all.0
   cond_head false c cs e all = absurd (false≢true e)
 
   -- and back
-  all_picked : (s : ℕ) (ps : Places) → All P (picks h s ps) → Each s ps
+  all_picked : (s : ℕ) (ps : Places) → AllByRecursion P (picks h s ps) → Each s ps
   unfolding Each picks
   all_picked s [] all j d e picked = absurd (none_some e)
   all_picked s (None ∷ ps) all zero d e picked = absurd (none_some e)

@@ -2,7 +2,7 @@
 use Rattle.std.proofs.Common.{ℕ, ◌<◌, ◌≤◌, List, [], ◌∷◌, ◌++◌, subst}
 use Prim.Native.Nat.{◌∣◌}
 use native.Mathlib.Nat.{dvd_trans, one-dvd, pos_of_dvd_of_pos, le_of_dvd}
-use Rattle.std.specs.List.{AllByRecursion as All}
+use Rattle.std.specs.List.{AllByRecursion}
 use Rattle.std.proofs.ByRecursion.{All-append, All-weaker}
 use Rattle.congruence.specs.Divisors.{IsGcd, IsLcm}
 use Rattle.congruence.proofs.Euclid.{gcd_unique}
@@ -22,7 +22,7 @@ factor_push qs p q g h m is old l = record {
   least = λ k all. let parts = all_split (λ n. (d : ℕ) → IsGcd p n d → d ∣ k) qs (q ∷ []) all in l.least k (old.least k parts.0, (parts.1.0 g is, tt));
 }
 
-all_any : {P : ℕ → Type 0} (qs : List ℕ) → ((q : ℕ) → P q) → All P qs
+all_any : {P : ℕ → Type 0} (qs : List ℕ) → ((q : ℕ) → P q) → AllByRecursion P qs
 all_any [] each = tt
 all_any (q ∷ qs) each = (each q, all_any qs each)
 

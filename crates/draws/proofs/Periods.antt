@@ -1,6 +1,6 @@
 -- The periods of a list, place by place.
 use Rattle.std.proofs.Common.{◌≡◌, ℕ, zero, suc, ◌+◌, ◌<◌, [], ◌∷◌, ◌++◌, length, get_or, take, Some, None, refl, ap, ◌∙◌, subst}
-use Rattle.std.specs.List.{AllByRecursion as All}
+use Rattle.std.specs.List.{AllByRecursion}
 use Rattle.std.proofs.lemmas.List.{take_more}
 use Rattle.draws.specs.declared.draw.Draw.{Draw}
 use Rattle.draws.specs.Draws.{Places, periods_of}
@@ -16,13 +16,13 @@ pub periods_more : (ps : Places) (s : ℕ) → s < length ps → periods_of (tak
 periods_more ps s within = ap periods_of (take_more ps s None within) ∙ periods_append (take s ps) (get_or ps s None ∷ [])
 
 -- what holds of the period of each box holds of all periods
-pub periods_all : (P : ℕ → Type 0) (ps : Places) → ((s : ℕ) (d : Draw) → get_or ps s None ≡ Some d → P d.clock.period) → All P (periods_of ps)
+pub periods_all : (P : ℕ → Type 0) (ps : Places) → ((s : ℕ) (d : Draw) → get_or ps s None ≡ Some d → P d.clock.period) → AllByRecursion P (periods_of ps)
 periods_all P [] each = tt
 periods_all P (None ∷ ps) each = periods_all P ps (λ s d e. each (suc s) d e)
 periods_all P (Some c ∷ ps) each = (each 0 c refl, periods_all P ps (λ s d e. each (suc s) d e))
 
 -- and back
-pub periods_at : (P : ℕ → Type 0) (ps : Places) → All P (periods_of ps) → (s : ℕ) (d : Draw) → get_or ps s None ≡ Some d → P d.clock.period
+pub periods_at : (P : ℕ → Type 0) (ps : Places) → AllByRecursion P (periods_of ps) → (s : ℕ) (d : Draw) → get_or ps s None ≡ Some d → P d.clock.period
 periods_at P [] all s d e = absurd (none_some e)
 periods_at P (None ∷ ps) all zero d e = absurd (none_some e)
 periods_at P (None ∷ ps) all (suc s) d e = periods_at P ps all s d e

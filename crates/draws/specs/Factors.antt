@@ -1,12 +1,12 @@
 -- By how much a wait matters beside other boxes.
 use Rattle.std.specs.Prelude.{ℕ, List}
 use Rattle.std.specs.Int.{◌∣◌}
-use Rattle.std.specs.List.{AllByRecursion as All}
+use Rattle.std.specs.List.{AllByRecursion}
 use Rattle.congruence.specs.Divisors.{IsGcd}
 
 -- k is a multiple of the greatest common divisors of p with each of the periods qs
 abbrev pub Multiple : List ℕ → ℕ → ℕ → Type 0
-Multiple qs p k = All (λ q. (g : ℕ) → IsGcd p q g → g ∣ k) qs
+Multiple qs p k = AllByRecursion (λ q. (g : ℕ) → IsGcd p q g → g ∣ k) qs
 
 -- h is the least common multiple of these divisors, which beside no other period is 1
 pub record Factor (qs : List ℕ) (p h : ℕ) : Type 0 where

@@ -1,7 +1,7 @@
 -- The examples of first common ticks: earlier ticks are tried one by one.
 use Rattle.std.proofs.Common.{◌≡◌, ℕ, zero, suc, ◌*◌, ◌%◌, ◌<◌, ◌≤◌, Bool, true, not, ◌&&◌, eqb, List, [], ◌∷◌, refl, subst, ⊎_elim, arith}
 use native.Mathlib.Nat.{one-dvd}
-use Rattle.std.specs.List.{AllByRecursion as All}
+use Rattle.std.specs.List.{AllByRecursion}
 use Rattle.std.proofs.lemmas.Bool.{and_from, and_parts, both_ways, cases_lt, eq-eqb, not-true}
 use Rattle.congruence.specs.declared.clocks.Clock.{Clock}
 use Rattle.congruence.specs.declared.common.FirstTick.TheVariants.{Never, At}
@@ -17,17 +17,17 @@ abbrev none_below : ℕ → List Clock → Bool
 none_below zero cs = true
 none_below (suc t) cs = not (all_due t cs) && none_below t cs
 
-all_due_from : (t : ℕ) (cs : List Clock) → All (Due t) cs → all_due t cs ≡ true
+all_due_from : (t : ℕ) (cs : List Clock) → AllByRecursion (Due t) cs → all_due t cs ≡ true
 all_due_from t [] h = refl
 all_due_from t (c ∷ cs) h = and_from _ _ (eq-eqb _ _ h.0) (all_due_from t cs h.1)
 
-none_before : (t : ℕ) (cs : List Clock) → none_below t cs ≡ true → (s : ℕ) → s < t → All (Due s) cs → ⊥
+none_before : (t : ℕ) (cs : List Clock) → none_below t cs ≡ true → (s : ℕ) → s < t → AllByRecursion (Due s) cs → ⊥
 none_before zero cs e s before h = omega arith
 none_before (suc t) cs e s before h =
     let parts = and_parts (not (all_due t cs)) (none_below t cs) e in
     ⊎_elim
     (λ earlier. none_before t cs parts.1 s earlier h)
-    (λ late. let here : s ≡ t = omega arith in both_ways _ (not-true _ parts.0) (all_due_from t cs (subst (λ n. All (Due n) cs) here h)))
+    (λ late. let here : s ≡ t = omega arith in both_ways _ (not-true _ parts.0) (all_due_from t cs (subst (λ n. AllByRecursion (Due n) cs) here h)))
     (cases_lt s t)
 
 valid : (p w : ℕ) → 0 < p → p ≤ 1000 → w < p → Valid (clock p w)

@@ -1,6 +1,6 @@
 -- The worked examples, as one list.
 use Rattle.std.specs.Prelude.{◌≡◌, ℕ, ◌≤◌, List, [], ◌∷◌, Some, Option}
-use Rattle.std.specs.List.{AllByRecursion as All}
+use Rattle.std.specs.List.{AllByRecursion}
 use Rattle.congruence.specs.declared.clocks.Clock.{Clock}
 use Rattle.congruence.specs.declared.common.FirstTick.{FirstTick}
 use Rattle.congruence.specs.declared.common.FirstTick.TheVariants.{Never, At}
@@ -29,7 +29,7 @@ abbrev pub PeakAt : {L : Type 0} → Kind L → Places → ℕ → ℕ → Type 
 PeakAt K ps n tick = (at_tick K ps tick ≡ n) × ((t : ℕ) → at_tick K ps t ≤ n)
 
 abbrev pub Holds : Example → Type 0
-Holds (first_tick cs first) = All Valid cs × FirstOf cs first
+Holds (first_tick cs first) = AllByRecursion Valid cs × FirstOf cs first
 Holds (peak_at amps ps n tick) = PeakAt amps_kind ps n tick
 Holds (peak_at phases ps n tick) = PeakAt phases_kind ps n tick
 Holds (peak_at inrush ps n tick) = PeakAt inrush_kind ps n tick

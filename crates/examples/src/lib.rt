@@ -2,13 +2,13 @@
 #![tactic(auto)]
 
 ghost use Rattle.std.specs.Prelude.{◌≡◌, length};
-ghost use Rattle.std.specs.List.{AllByRecursion as All};
+ghost use Rattle.std.specs.List.{AllByRecursion};
 ghost use Rattle.examples.specs.Worked.{Holds, worked};
 
 // How many worked examples there are; each of them holds.
 pub fn worked_examples() -> usize
     ensures count { result ≡ length worked }
-    ensures hold { All Holds worked }
+    ensures hold { AllByRecursion Holds worked }
 {
     10
 }

@@ -1,7 +1,7 @@
 -- What a text says of boxes.
 use Rattle.std.specs.Prelude.{◌≡◌, ℕ, ◌≤◌, min, List, [], map, length, Ok, Err, string_bytes, Result, String, slice_index}
 use Rattle.std.specs.declared.alloc.Global.{Global}
-use Rattle.std.specs.List.{HoldsAt, AllByRecursion as All}
+use Rattle.std.specs.List.{HoldsAt, AllByRecursion}
 use Rattle.congruence.specs.declared.clocks.Clock.{Clock}
 use Rattle.congruence.specs.declared.common.FirstTick.{FirstTick}
 use Rattle.congruence.specs.declared.refusals.Refusal.{Refusal}
@@ -36,7 +36,7 @@ clocks_said = map clock_said
 -- what is told of a text
 abbrev pub Meeting : List ℕ → Result (String Global) Fault → Type 0
 Meeting text (Ok s) =
-    (rs : List Said) × (first : FirstTick) × HasRows text rs × All Valid (clocks_said rs) × FirstOf (clocks_said rs) first × Record (clocks_said rs) first (string_bytes s)
+    (rs : List Said) × (first : FirstTick) × HasRows text rs × AllByRecursion Valid (clocks_said rs) × FirstOf (clocks_said rs) first × Record (clocks_said rs) first (string_bytes s)
 Meeting text (Err (BadLine n)) = Reads 2 24 text (Err (BadRow n))
 Meeting text (Err (TooManyBoxes n)) = Reads 2 24 text (Err (TooManyRows n))
 Meeting text (Err (BadBox line period wait refusal)) =

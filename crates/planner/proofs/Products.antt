@@ -1,6 +1,6 @@
 -- The product of a list, factor by factor.
 use Rattle.std.proofs.Common.{◌≡◌, ℕ, zero, suc, ◌+◌, ◌*◌, ◌<◌, ◌≤◌, List, [], ◌∷◌, ◌++◌, length, get_or, take, drop, sym, refl, ap, ◌∙◌, subst, mul_assoc, mul-le-mul, mul-le-mul_left, mul-pos, one-mul, mul-one, arith, take-append-drop}
-use Rattle.std.specs.List.{AllByRecursion as All}
+use Rattle.std.specs.List.{AllByRecursion}
 use Rattle.std.proofs.ByRecursion.{All-drop}
 use Rattle.std.proofs.lemmas.List.{take_more}
 use Rattle.planner.specs.Settings.{product}
@@ -12,12 +12,12 @@ product_append (x ∷ xs) ys = ap (λ k. x * k) (product_append xs ys) ∙ sym (
 pub product_more : (xs : List ℕ) (i d : ℕ) → i < length xs → product (take (i + 1) xs) ≡ product (take i xs) * get_or xs i d
 product_more xs i d within = ap product (take_more xs i d within) ∙ product_append (take i xs) (get_or xs i d ∷ []) ∙ ap (λ k. product (take i xs) * k) (mul-one (get_or xs i d))
 
-pub product_some : (xs : List ℕ) → All (λ x. 0 < x) xs → 0 < product xs
+pub product_some : (xs : List ℕ) → AllByRecursion (λ x. 0 < x) xs → 0 < product xs
 product_some [] all = omega arith
 product_some (x ∷ xs) all = mul-pos all.0 (product_some xs all.1)
 
 -- a whole product is not below that of a front
-pub product_front : (xs : List ℕ) (i : ℕ) → All (λ x. 0 < x) xs → product (take i xs) ≤ product xs
+pub product_front : (xs : List ℕ) (i : ℕ) → AllByRecursion (λ x. 0 < x) xs → product (take i xs) ≤ product xs
 product_front xs i all =
     let whole = ap product (sym (take-append-drop i xs)) ∙ product_append (take i xs) (drop i xs) in
     let some = product_some (drop i xs) (All-drop (λ x. 0 < x) i xs all) in

@@ -2,7 +2,7 @@
 use Rattle.std.proofs.Common.{◌≡◌, ℕ, zero, suc, ◌+◌, ◌-◌, ◌*◌, ◌/◌, ◌%◌, ◌<◌, ◌≤◌, true, eqb, List, [], ◌∷◌, map, length, get_or, Some, None, Option, sym, refl, ap, ◌∙◌, subst, mod-lt, mod-eq_of_lt, mul-add, arith}
 use Prim.Native.Nat.{◌∣◌}
 use native.Mathlib.Nat.{add-mul-mod_self_right, dvd-mul_left, dvd-mul_right_of_dvd, dvd-sub, dvd_trans, mod-add-div, mod-add-mod, add-mod-mod}
-use Rattle.std.specs.List.{AllByRecursion as All}
+use Rattle.std.specs.List.{AllByRecursion}
 use Rattle.std.proofs.ByRecursion.{All-weaker}
 use Rattle.std.proofs.lemmas.List.{length-map}
 use Rattle.std.proofs.lemmas.Bool.{eq-eqb, eqb-true}
@@ -102,13 +102,13 @@ module _ {L : Type 0} (K : Kind L) (laws : Laws K) (T : ℕ) (ps : Places) (vali
           let one : m - 1 + 1 ≡ m = omega arith in
           omega (arith, native.Mathlib.Nat.add-mul (m - 1) 1 T, ap (λ k. k * T) one)
 
-      divides : (m : ℕ) → All (λ p. p ∣ m) (periods_of ps) → (s : ℕ) (p : Option Draw) → get_or ps s None ≡ p → (d : Draw) → moved_place T p ≡ Some d → d.clock.period ∣ m
+      divides : (m : ℕ) → AllByRecursion (λ p. p ∣ m) (periods_of ps) → (s : ℕ) (p : Option Draw) → get_or ps s None ≡ p → (d : Draw) → moved_place T p ≡ Some d → d.clock.period ∣ m
       divides m all s None e d is = absurd (Rattle.draws.proofs.Cliques.none_some is)
       divides m all s (Some c) e d is = subst (λ q. q ∣ m) (ap (λ b. b.clock.period) (Rattle.draws.proofs.Cliques.some_same is)) (periods_at (λ p. p ∣ m) ps all s c e)
 
 -- Time can be moved so that every clock of the periods qs stands as it stood and the wait x of a box of period p becomes
 -- its remainder by the factor.
-pub slide_to : (qs : List ℕ) (p h x : ℕ) → 0 < p → x < p → Factor qs p h → (T : ℕ) × All (λ q. q ∣ T) qs × ((x + T) % p ≡ x % h)
+pub slide_to : (qs : List ℕ) (p h x : ℕ) → 0 < p → x < p → Factor qs p h → (T : ℕ) × AllByRecursion (λ q. q ∣ T) qs × ((x + T) % p ≡ x % h)
 slide_to qs p h x some below f =
     let c = h * (x / h) in
     let whole : x % h + c ≡ x = mod-add-div x h in

@@ -2,7 +2,7 @@
 use Rattle.std.proofs.Common.{◌≡◌, ℕ, suc, ◌+◌, ◌<◌, ◌≤◌, false, eqb, List, [], ◌∷◌, ◌++◌, map, length, get_or, Ok, Err, sym, refl, ap, ◌∙◌, subst, append_assoc, append-nil, arith}
 use Rattle.std.specs.Char.{is_whitespace, is_not_whitespace}
 use Rattle.std.specs.Str.{NoCharPasses, EmptyOrStartsWithPassing}
-use Rattle.std.specs.List.{AllByRecursion as All}
+use Rattle.std.specs.List.{AllByRecursion}
 use Rattle.std.proofs.ByRecursion.{All-push}
 use Rattle.std.proofs.lemmas.List.{length-map, length_push, map_push}
 use Rattle.std.proofs.lemmas.Bool.{cond-true, cond-false, eq-eqb, ne_eqb}
@@ -42,7 +42,7 @@ words_push bs (v ∷ ws) rest w next h first = (h.0, h.1, words_push h.0 ws rest
 pub record Sofar (text rest : List ℕ) (ns : List ℕ) : Type 0 where
   pub seen : List (List ℕ)
   pub words : Words text seen rest
-  pub all : All IsNumber seen
+  pub all : AllByRecursion IsNumber seen
   pub numbers : ns ≡ map number_of seen
 
 pub sofar_none : (text : List ℕ) → Sofar text text []

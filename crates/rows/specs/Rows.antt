@@ -3,7 +3,7 @@ use Rattle.std.specs.Prelude.{◌≡◌, ℕ, ◌+◌, ◌^◌, ◌<◌, ◌≤�
 use Rattle.std.specs.Str.Parse.{IsNumeral, without_leading_plus, digits_value}
 use Rattle.std.specs.Char.{is_whitespace, is_not_whitespace}
 use Rattle.std.specs.Str.{NoCharPasses, EmptyOrStartsWithPassing}
-use Rattle.std.specs.List.{AllByRecursion as All}
+use Rattle.std.specs.List.{AllByRecursion}
 use Rattle.std.specs.Str.Lines.{IsFirstLine}
 use Rattle.std.specs.declared.alloc.Global.{Global}
 use Rattle.rows.specs.declared.Row.{Row}
@@ -39,7 +39,7 @@ number_of w = digits_value 10 (without_leading_plus w)
 -- the line has just the numbers ns
 abbrev pub Numbers : List ℕ → List ℕ → Type 0
 Numbers line ns =
-    (ws : List (List ℕ)) × (rest : List ℕ) × Words (before 35 line) ws rest × NoCharPasses is_not_whitespace rest × All IsNumber ws × (ns ≡ map number_of ws)
+    (ws : List (List ℕ)) × (rest : List ℕ) × Words (before 35 line) ws rest × NoCharPasses is_not_whitespace rest × AllByRecursion IsNumber ws × (ns ≡ map number_of ws)
 
 -- some word of the line is no number
 abbrev pub OtherWord : List ℕ → Type 0

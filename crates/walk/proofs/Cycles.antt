@@ -2,7 +2,7 @@
 use Rattle.std.proofs.Common.{ℕ, ◌+◌, ◌<◌, ◌≤◌, List, [], ◌∷◌, ◌++◌, length, get_or, take, drop, None, sym, ap, ◌∙◌, subst, arith, take-append-drop}
 use Prim.Native.Nat.{◌∣◌}
 use native.Mathlib.Nat.{dvd_trans, le_of_dvd, pos_of_dvd_of_pos}
-use Rattle.std.specs.List.{AllByRecursion as All}
+use Rattle.std.specs.List.{AllByRecursion}
 use Rattle.std.proofs.ByRecursion.{All-append, All-weaker}
 use Rattle.congruence.specs.Divisors.{IsLcm}
 use Rattle.congruence.proofs.Multiples.{all_split, lcm_exists}
@@ -31,6 +31,6 @@ cycle_some ps m valid l =
 pub too_long : (ps : Places) (n k : ℕ) → AllValid ps → IsLcm (periods_of (take n ps)) k → longest < k → Short ps → ⊥
 too_long ps n k valid front long short =
     let m = short.0 in
-    let parts = all_split (λ p. p ∣ m) (periods_of (take n ps)) (periods_of (drop n ps)) (subst (All (λ p. p ∣ m)) (ap periods_of (sym (take-append-drop n ps)) ∙ periods_append (take n ps) (drop n ps)) short.1.0.multiple) in
+    let parts = all_split (λ p. p ∣ m) (periods_of (take n ps)) (periods_of (drop n ps)) (subst (AllByRecursion (λ p. p ∣ m)) (ap periods_of (sym (take-append-drop n ps)) ∙ periods_append (take n ps) (drop n ps)) short.1.0.multiple) in
     let less : k ≤ m = le_of_dvd (cycle_some ps m valid short.1.0) (front.least m parts.0) in
     omega (arith, short.1.1)

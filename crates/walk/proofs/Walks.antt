@@ -2,7 +2,7 @@
 use Rattle.std.proofs.Common.{◌≡◌, ℕ, zero, suc, ◌+◌, ◌%◌, ◌<◌, ◌≤◌, true, eqb, [], ◌∷◌, length, Some, None, sym, refl, ap, ◌∙◌, subst, ⊎_elim, mod-lt, arith}
 use Prim.Native.Nat.{◌∣◌}
 use native.Mathlib.Nat.{mod-mod_of_dvd}
-use Rattle.std.specs.List.{AllByRecursion as All}
+use Rattle.std.specs.List.{AllByRecursion}
 use Rattle.std.proofs.lemmas.Bool.{cases_lt, false≢true}
 use Rattle.load.specs.Kinds.{Kind, Laws}
 use Rattle.congruence.specs.Divisors.{IsLcm}
@@ -12,7 +12,7 @@ use Rattle.draws.proofs.Bits.{bit_none, same_test}
 use Rattle.draws.proofs.Totals.{total_below, total_none, total_same}
 
 -- a cycle later each place does as it did
-drawing_cycle : (ps : Places) (m t s : ℕ) → All (λ p. p ∣ m) (periods_of ps) → drawing ps (t % m) s ≡ drawing ps t s
+drawing_cycle : (ps : Places) (m t s : ℕ) → AllByRecursion (λ p. p ∣ m) (periods_of ps) → drawing ps (t % m) s ≡ drawing ps t s
 drawing_cycle [] m t s all = refl
 drawing_cycle (None ∷ ps) m t zero all = refl
 drawing_cycle (None ∷ ps) m t (suc s) all = drawing_cycle ps m t s all

@@ -1,5 +1,5 @@
 use Rattle.std.proofs.Common.{◌≡◌, Some, sym, subst, arith}
-use Rattle.std.specs.List.{AllByRecursion as All}
+use Rattle.std.specs.List.{AllByRecursion}
 use Rattle.std.proofs.ByRecursion.{All-more}
 use Rattle.std.proofs.lemmas.List.{take_all}
 use Rattle.congruence.specs.Clocks.{Valid}
@@ -19,4 +19,4 @@ loop-place-preserved c =
     All-more Valid _ _ _ c.loop-place-test.true c.loop-place.invariant c.in_default.ensures.valid
 
 pub returns : goal.returns
-returns c = subst (All Valid) (take_all _ _ c.loop-place-test.false) c.loop-place.invariant
+returns c = subst (AllByRecursion Valid) (take_all _ _ c.loop-place-test.false) c.loop-place.invariant

@@ -1,7 +1,7 @@
-use Rattle.std.specs.List.{AllByRecursion as All}
+use Rattle.std.specs.List.{AllByRecursion}
 use Rattle.std.proofs.Common.{take}
 use Rattle.congruence.specs.Clocks.{Valid}
 use Rattle.congruence.proofs.clocks.check_clocks.Given as goal
 
 abbrev pub invariant-loop-place : goal.invariant-loop-place
-invariant-loop-place l = All Valid (take l.place l.clocks)
+invariant-loop-place l = AllByRecursion Valid (take l.place l.clocks)

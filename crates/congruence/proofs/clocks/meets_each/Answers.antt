@@ -1,5 +1,5 @@
 use Rattle.std.proofs.Common.{[], ◌∷◌, refl, subst}
-use Rattle.std.specs.List.{AllByRecursion as All}
+use Rattle.std.specs.List.{AllByRecursion}
 use Rattle.std.proofs.ByRecursion.{All-more, All-get_or}
 use Rattle.std.proofs.lemmas.List.{take_all}
 use Rattle.std.proofs.lemmas.Bool.{both_ways, false≢true}
@@ -25,6 +25,6 @@ loop-other-preserved c =
 
 pub returns : goal.returns
 returns c = (
-  λ e. (c.is_valid.ensures.0 c.if-not-is_valid.false, subst (All (Fit c.args.clock)) (take_all _ _ c.loop-other-test.false) c.loop-other.invariant),
+  λ e. (c.is_valid.ensures.0 c.if-not-is_valid.false, subst (AllByRecursion (Fit c.args.clock)) (take_all _ _ c.loop-other-test.false) c.loop-other.invariant),
   λ m. refl,
 )

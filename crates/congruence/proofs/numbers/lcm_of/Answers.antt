@@ -1,5 +1,5 @@
 use Rattle.std.proofs.Common.{◌+◌, eqb, Decides, subst, arith}
-use Rattle.std.specs.List.{ContainsAt as Has}
+use Rattle.std.specs.List.{ContainsAt}
 use Rattle.std.proofs.lemmas.List.Elements.{contains_decides}
 use Rattle.std.proofs.lemmas.List.{take_all}
 use Rattle.std.proofs.lemmas.Bool.Decides.{not_from_Decides, Decides-eqb}
@@ -8,7 +8,7 @@ use Rattle.congruence.proofs.Multiples.{all_some, lcm_beyond_front, lcm_next, lc
 use Rattle.congruence.proofs.numbers.lcm_of.Goals as goal
 use Rattle.congruence.proofs.numbers.lcm_of.Goals.{After-contains}
 
-zeros : (c : After-contains) → Decides c.contains.result (Has c.args.numbers.now 0)
+zeros : (c : After-contains) → Decides c.contains.result (ContainsAt c.args.numbers.now 0)
 zeros c = contains_decides eqb Decides-eqb _ _ _ c.contains.ensures.cases
 
 pub returns-then-contains : goal.returns-then-contains
