@@ -5,6 +5,7 @@ mod meeting;
 mod record;
 
 use meeting::first_meeting;
+use std::process::ExitCode;
 use std::{env, io};
 
 const USAGE: &str = "usage: first_meeting < FILE
@@ -21,12 +22,15 @@ fn run(rt: &HostRuntime) -> anyhow::Result<()> {
     Ok(())
 }
 
-fn main(rt: HostRuntime) -> anyhow::Result<()> {
-    let result = run(&rt);
-    if let Err(e) = &result {
-        eprintln!(rt; "first_meeting: {e}")?;
+fn main(rt: HostRuntime) -> ExitCode {
+    match run(&rt) {
+        Ok(()) => ExitCode::SUCCESS,
+        Err(e) => {
+            // Where this line can't be written either, the status still tells.
+            let _ = eprintln!(rt; "first_meeting: {e}");
+            ExitCode::FAILURE
+        },
     }
-    result
 }
 
 #[cfg(test)]

@@ -6,6 +6,7 @@ mod lists;
 mod timing;
 
 use lists::{composite_list, random_list};
+use std::process::ExitCode;
 use std::{env, io};
 use timing::{Timing, timed};
 
@@ -44,10 +45,13 @@ fn run(rt: &HostRuntime) -> anyhow::Result<()> {
     Ok(())
 }
 
-fn main(rt: HostRuntime) -> anyhow::Result<()> {
-    let result = run(&rt);
-    if let Err(e) = &result {
-        eprintln!(rt; "peak_bench: {e}")?;
+fn main(rt: HostRuntime) -> ExitCode {
+    match run(&rt) {
+        Ok(()) => ExitCode::SUCCESS,
+        Err(e) => {
+            // Where this line can't be written either, the status still tells.
+            let _ = eprintln!(rt; "peak_bench: {e}");
+            ExitCode::FAILURE
+        },
     }
-    result
 }

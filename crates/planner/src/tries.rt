@@ -1,7 +1,7 @@
 // Trying a wait for one box.
 ghost use Rattle.std.specs.Prelude.{◌≡◌, Some, None, slice_set};
 ghost use Rattle.draws.specs.Draws.{Peak};
-ghost use Rattle.table.specs.Slots.{started as with-wait};
+ghost use Rattle.table.specs.Slots.{started};
 ghost use Rattle.planner.specs.Searches.{Fits};
 
 use draws::DrawList;
@@ -12,7 +12,7 @@ use table::Booking;
 // The list with a booked box started at its place.
 pub(crate) fn with_started(list: &DrawList, socket: usize, booking: Booking, wait: u16) -> DrawList
     requires { Fits socket booking wait }
-    ensures { result.places ≡ slice_set list.now.places socket (Some (with-wait booking wait)) }
+    ensures { result.places ≡ slice_set list.now.places socket (Some (started booking wait)) }
 {
     let mut out = *list;
     let _ = out.set(socket, booking.started(wait));

@@ -11,8 +11,8 @@ more c =
     ap (λ k. c.loop-factor.n * k) c.from-n.ensures ∙ ap (λ k. k * get_or c.args.factors.now c.loop-factor.factor-index 0) c.loop-factor.invariant.0
     ∙ sym (product_more c.args.factors.now c.loop-factor.factor-index 0 (omega (arith, c.told-factors, c.loop-factor-test.true)))
 
-pub overflow-mul-n : goal.overflow-mul-n
-overflow-mul-n c = omega (arith, product_bound c.loop-factor.n c.from-n.result c.loop-factor.invariant.1 (omega (arith, c.from-n.ensures, c.fits-factors c.loop-factor.factor-index)))
+pub overflow_mul-n : goal.overflow_mul-n
+overflow_mul-n c = omega (arith, product_bound c.loop-factor.n c.from-n.result c.loop-factor.invariant.1 (omega (arith, c.from-n.ensures, c.fits-factors c.loop-factor.factor-index)))
 
 pub returns-then-n-from : goal.returns-then-n-from
 returns-then-n-from c =

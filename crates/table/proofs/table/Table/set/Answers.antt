@@ -5,8 +5,11 @@ use Rattle.table.specs.declared.slot.Slot.TheVariants.{Empty}
 use Rattle.table.specs.Slots.{sound_slot}
 use Rattle.table.proofs.table.Table.set.Goals as goal
 
-pub invariant-of-self : goal.invariant-of-self
-invariant-of-self c =
+pub invariant_of-self : goal.invariant_of-self
+invariant_of-self c =
     let table = c.args.self.now in
-    let fits = ap (λ o. not (is_some o)) (sym c.in-default.ensures) in
-    (length-set _ _ _ ∙ table.whole, (set_ranges sound_slot Empty table.slots 24 c.args.socket _ (omega (arith, table.whole)) fits table.ranges, tt))
+    let fits = ap (λ o. not (is_some o)) (sym c.in_default.ensures) in
+    record {
+      whole = length-set _ _ _ ∙ table.whole;
+      ranges = set_ranges sound_slot Empty table.slots 24 c.args.socket _ (omega (arith, table.whole)) fits table.ranges;
+    }
