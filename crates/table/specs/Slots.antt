@@ -1,5 +1,5 @@
 -- What a socket can hold.
-use Rattle.std.specs.Prelude.{◌≡◌, ℕ, ◌<◌, ◌≤◌, Bool, true, not, [], ◌∷◌, is_some, Some, None, Option}
+use Rattle.std.specs.Prelude.{◌≡◌, ℕ, ◌<◌, ◌≤◌, Bool, true, not, [], ◌∷◌, is_some, None, Option}
 use Rattle.congruence.specs.declared.refusals.Refusal.{Refusal}
 use Rattle.congruence.specs.Refusals.{first_failed, period_check}
 use Rattle.load.specs.Ratings.{in_range}

@@ -1,11 +1,9 @@
 -- What the boxes of a table draw, now and once booked boxes have started.
-use Rattle.std.specs.Prelude.{◌≡◌, ℕ, suc, ◌<◌, cond, List, [], ◌∷◌, map, Some, None, Option, nat_lt}
+use Rattle.std.specs.Prelude.{ℕ, suc, cond, List, [], ◌∷◌, Some, None, Option, nat_lt}
 use Rattle.congruence.specs.declared.refusals.Refusal.{Refusal}
-use Rattle.congruence.specs.Refusals.{Check, first_failed}
 use Rattle.draws.specs.declared.draw.Draw.{Draw}
 use Rattle.draws.specs.Draws.{Places}
 use Rattle.draws.specs.Lists.{place_check}
-use Rattle.table.specs.declared.slot.Booking.{Booking}
 use Rattle.table.specs.declared.slot.Slot.{Slot}
 use Rattle.table.specs.declared.slot.Slot.TheVariants.{Empty, Booked, Running}
 use Rattle.table.specs.Slots.{slot_fault, started}

@@ -1,4 +1,4 @@
-use Rattle.std.proofs.Common.{not, is_some, sym, refl, ap, ◌∙◌, arith}
+use Rattle.std.proofs.Common.{not, is_some, sym, ap, ◌∙◌, arith}
 use Rattle.std.proofs.lemmas.List.{length-set}
 use Rattle.draws.proofs.Sets.{set_ranges}
 use Rattle.table.specs.declared.slot.Slot.TheVariants.{Empty}
