@@ -7,7 +7,7 @@ ghost use Rattle.first_meeting.specs.Meetings.{clock_said, box_fault, Meeting, F
 use crate::record::meeting_record;
 use congruence::{Clock, Refusal, first_common_tick};
 use rows::{Row, RowsFault, read_rows};
-use std::alloc::{AllocError, AllocFailed, Global};
+use std::alloc::{AllocError, Global};
 use std::error::Error;
 use std::fmt;
 

@@ -56,7 +56,7 @@ fn push_pairs(
     place: usize,
 ) -> Result<(), AllocError>
     requires { place < length clocks.now }
-    ensures { OnOk result (((text : List ℕ) × PairsWith clocks.now place place text × (string_bytes out.new ≡ string_bytes out.old ++ text))) }
+    ensures { OnOk result ((text : List ℕ) × PairsWith clocks.now place place text × (string_bytes out.new ≡ string_bytes out.old ++ text)) }
 {
     for other in 0..place {
         if !meets(clocks[other], clocks[place]) {
@@ -67,7 +67,7 @@ fn push_pairs(
 }
 
 fn push_all_pairs(heap: Global, out: &mut String, clocks: &[Clock]) -> Result<(), AllocError>
-    ensures { OnOk result (((text : List ℕ) × Pairs clocks.now (length clocks.now) text × (string_bytes out.new ≡ string_bytes out.old ++ text))) }
+    ensures { OnOk result ((text : List ℕ) × Pairs clocks.now (length clocks.now) text × (string_bytes out.new ≡ string_bytes out.old ++ text)) }
 {
     for place in 0..clocks.len() {
         push_pairs(heap, out, clocks, place)?;

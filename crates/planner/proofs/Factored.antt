@@ -1,8 +1,7 @@
 -- The factors of a table, socket by socket.
-use Rattle.std.proofs.Common.{◌≡◌, ℕ, ◌+◌, ◌<◌, ◌≤◌, List, length, get_or, set, replicate, Some, None, sym, refl, ap, ◌∙◌, subst, ⊎_elim, arith}
+use Rattle.std.proofs.Common.{◌≡◌, ℕ, ◌+◌, ◌<◌, ◌≤◌, List, length, get_or, set, replicate, Some, sym, refl, ap, ◌∙◌, subst, ⊎_elim, arith}
 use Rattle.std.proofs.lemmas.List.{get_or-replicate, get_or-set_other, get_or-set_same, length-set}
-use Rattle.std.proofs.lemmas.Bool.{cases_eq, cases_lt}
-use Rattle.draws.specs.declared.draw.Draw.{Draw}
+use Rattle.std.proofs.lemmas.Bool.{cases_eq}
 use Rattle.draws.specs.Draws.{Places, periods_of}
 use Rattle.draws.specs.Factors.{Factor}
 use Rattle.draws.proofs.Factoring.{factor_some}
@@ -14,8 +13,8 @@ use Rattle.table.specs.Slots.{started}
 use Rattle.table.specs.Tables.{places}
 use Rattle.table.proofs.Started.{bookable}
 use Rattle.planner.specs.Choices.{BookedAt}
-use Rattle.planner.specs.Settings.{FactorAt, Factors, beside}
-use Rattle.planner.proofs.Placing.{booked_within, places_set, places_skip}
+use Rattle.planner.specs.Settings.{FactorAt, Factors}
+use Rattle.planner.proofs.Placing.{places_set, places_skip}
 
 -- the factors of the first n sockets, 1 behind them, and the boxes that count there
 pub record FactorsTo (slots : List Slot) (n : ℕ) (hs : List ℕ) (ps : Places) : Type 0 where

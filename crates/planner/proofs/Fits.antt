@@ -1,5 +1,5 @@
 -- The best wait of one box, and the boxes fitted so far.
-use Rattle.std.proofs.Common.{◌≡◌, ℕ, suc, ◌+◌, ◌%◌, ◌<◌, ◌≤◌, max, true, false, cond, eqb, ◌⊎◌, List, length, get_or, set, replicate, Some, None, Option, sym, refl, ap, ◌∙◌, subst, inl, inr, ⊎_elim, mod-lt, mod-eq_of_lt, arith}
+use Rattle.std.proofs.Common.{◌≡◌, ℕ, suc, ◌+◌, ◌%◌, ◌<◌, ◌≤◌, cond, eqb, List, length, get_or, set, replicate, Some, None, Option, sym, refl, ap, ◌∙◌, subst, ⊎_elim, mod-lt, arith}
 use Prim.Native.Nat.{◌∣◌}
 use Rattle.std.proofs.lemmas.List.{ext_get_or, get_or_past, get_or-replicate, get_or-set_other, get_or-set_same, length-set}
 use Rattle.std.proofs.lemmas.Bool.{cases_eq, cases_lt, cond-false, cond-true, eq-eqb, ne_eqb}
@@ -9,23 +9,23 @@ use Rattle.draws.specs.declared.draw.Draw.{Draw}
 use Rattle.draws.specs.Draws.{Passes, Peak, Places, Reaches, periods_of}
 use Rattle.draws.specs.Factors.{Factor}
 use Rattle.draws.proofs.Cliques.{AllValid, none_some, some_same}
-use Rattle.draws.proofs.Factoring.{factor_most, factor_some}
-use Rattle.draws.proofs.Peaks.{Among, reaches_alone, reaches_more, reaches_peak}
+use Rattle.draws.proofs.Factoring.{factor_some}
+use Rattle.draws.proofs.Peaks.{reaches_alone, reaches_more, reaches_peak}
 use Rattle.draws.proofs.Periods.{periods_at}
 use Rattle.table.specs.declared.slot.Booking.{Booking}
 use Rattle.table.specs.declared.slot.Slot.{Slot}
-use Rattle.table.specs.declared.slot.Slot.TheVariants.{Empty, Booked}
+use Rattle.table.specs.declared.slot.Slot.TheVariants.{Empty}
 use Rattle.table.specs.declared.table.Table.{Table}
 use Rattle.table.specs.Slots.{Bookable, started}
 use Rattle.table.specs.Tables.{places}
 use Rattle.table.proofs.Started.{started_valid}
-use Rattle.planner.specs.Choices.{BookedAt, Choice, Fitted, FittedAt, chosen, fitting}
+use Rattle.planner.specs.Choices.{BookedAt, Fitted, FittedAt, fitting}
 use Rattle.planner.specs.Plans.{Plain, waits_of}
 use Rattle.planner.specs.Searches.{BestWait}
 use Rattle.planner.proofs.Moves.{unmoved}
 use Rattle.planner.proofs.Outcomes.{reaches_less}
 use Rattle.planner.proofs.Placing.{Agree, booked_within, places_agree, places_set, places_skip}
-use Rattle.planner.proofs.Slides.{get_or_slid, length_slid, moved, moved_place, reaches_moved, slid, slide_to}
+use Rattle.planner.proofs.Slides.{get_or_slid, length_slid, moved_place, reaches_moved, slid, slide_to}
 
 -- beside the boxes of a list
 module _ {L : Type 0} (K : Kind L) (laws : Laws K) (ps : Places) (s : ℕ) (b : Booking) (few : length ps ≤ 64) (valid : AllValid ps) (within : s < length ps) (fits : Bookable b) where
@@ -62,11 +62,11 @@ module _ {L : Type 0} (K : Kind L) (laws : Laws K) (ps : Places) (s : ℕ) (b : 
       (λ j below. at T move.1 move.2 j) in
       reaches_moved K laws T (set ps s (Some (started b x))) (with_valid x low) n (subst (λ qs. Reaches K qs n) same reach)
     where
-      still : (T : ℕ) → Rattle.std.specs.List.All (λ q. q ∣ T) (periods_of ps) → (j : ℕ) (p : Option Draw) → get_or ps j None ≡ p → p ≡ moved_place T p
+      still : (T : ℕ) → Rattle.std.specs.List.AllByRecursion (λ q. q ∣ T) (periods_of ps) → (j : ℕ) (p : Option Draw) → get_or ps j None ≡ p → p ≡ moved_place T p
       still T all j None e = refl
       still T all j (Some d) e = ap Some (unmoved T d (valid j d e) (periods_at (λ q. q ∣ T) ps all j d e))
 
-      at : (T : ℕ) → Rattle.std.specs.List.All (λ q. q ∣ T) (periods_of ps) → (x + T) % b.period ≡ x % h → (j : ℕ) → get_or (set ps s (Some (started b (x % h)))) j None ≡ get_or (slid T (set ps s (Some (started b x)))) j None
+      at : (T : ℕ) → Rattle.std.specs.List.AllByRecursion (λ q. q ∣ T) (periods_of ps) → (x + T) % b.period ≡ x % h → (j : ℕ) → get_or (set ps s (Some (started b (x % h)))) j None ≡ get_or (slid T (set ps s (Some (started b x)))) j None
       at T all is j =
           ⊎_elim
           (λ here.

@@ -52,7 +52,7 @@ module _ {L : Type 0} (K : Kind L) (laws : Laws K) (table : Table) (hs : List �
     some : 0 < b.period
     some = (bookable table n b at).some
 
-    move : (T : ℕ) × Rattle.std.specs.List.All (λ q. q ∣ T) (beside table.slots n) × ((r n + T) % b.period ≡ r n % h)
+    move : (T : ℕ) × Rattle.std.specs.List.AllByRecursion (λ q. q ∣ T) (beside table.slots n) × ((r n + T) % b.period ≡ r n % h)
     move = slide_to (beside table.slots n) b.period h (r n) some (old.choice n b at) is_factor
 
     T : ℕ

@@ -1,8 +1,7 @@
 -- A choice whose waits are all moved by the same number of ticks.
-use Rattle.std.proofs.Common.{◌≡◌, ℕ, ◌+◌, ◌%◌, ◌<◌, ◌≤◌, true, false, cond, ltb, List, length, get_or, Some, None, Option, sym, refl, ap, ◌∙◌, subst, ⊎_elim, mod-lt, mod-eq_of_lt}
+use Rattle.std.proofs.Common.{◌≡◌, ℕ, ◌+◌, ◌%◌, true, false, cond, ltb, List, get_or, Some, None, sym, refl, ap, ◌∙◌, mod-eq_of_lt}
 use Prim.Native.Nat.{◌∣◌}
 use Rattle.std.proofs.lemmas.List.{ext_get_or}
-use Rattle.std.proofs.lemmas.Bool.{cases_Bool}
 use Rattle.congruence.specs.Clocks.{Valid}
 use Rattle.congruence.proofs.Meetings.{mod_more}
 use Rattle.draws.specs.declared.draw.Draw.{Draw}

@@ -1,28 +1,27 @@
 -- What trying some choices leaves as the best, and the choices of one branch.
-use Rattle.std.proofs.Common.{◌≡◌, ℕ, suc, ◌+◌, ◌<◌, ◌≤◌, ◌⊎◌, List, length, get_or, set, Some, None, sym, refl, ap, ◌∙◌, subst, inl, inr, ⊎_elim, arith}
-use Rattle.std.proofs.lemmas.List.{get_or_past, get_or-set_other, get_or-set_same, length-set}
+use Rattle.std.proofs.Common.{◌≡◌, ℕ, suc, ◌+◌, ◌<◌, ◌≤◌, ◌⊎◌, List, length, get_or, set, Some, sym, refl, ap, ◌∙◌, subst, inl, inr, ⊎_elim, arith}
+use Rattle.std.proofs.lemmas.List.{get_or-set_other, get_or-set_same, length-set}
 use Rattle.std.proofs.lemmas.Bool.{cases_eq, cases_lt, cases_order}
 use Rattle.load.specs.Kinds.{Kind, Laws}
-use Rattle.draws.specs.Draws.{Passes, Peak, Places, Reaches}
-use Rattle.draws.specs.Factors.{Factor}
+use Rattle.draws.specs.Draws.{Peak, Places, Reaches}
 use Rattle.draws.proofs.Factoring.{factor_most}
 use Rattle.draws.proofs.Peaks.{reaches_more, reaches_peak}
 use Rattle.table.specs.declared.slot.Booking.{Booking}
 use Rattle.table.specs.declared.slot.Slot.{Slot}
-use Rattle.table.specs.declared.slot.Slot.TheVariants.{Empty, Booked}
+use Rattle.table.specs.declared.slot.Slot.TheVariants.{Empty}
 use Rattle.table.specs.declared.table.Table.{Table}
 use Rattle.table.specs.Slots.{started}
 use Rattle.table.specs.Tables.{places}
-use Rattle.table.proofs.Started.{bookable, booked_same, length_places}
+use Rattle.table.proofs.Started.{bookable, length_places}
 use Rattle.planner.specs.declared.branches.Best.{Best}
 use Rattle.planner.specs.declared.branches.Prefix.{Prefix}
 use Rattle.planner.specs.Choices.{BookedAt, Choice, Earlier, Planned, chosen}
-use Rattle.planner.specs.Plans.{Plain, waits_of}
+use Rattle.planner.specs.Plans.{waits_of}
 use Rattle.planner.specs.Searches.{Begun, Boxed, Completes, Improved, Outcome}
 use Rattle.planner.specs.Settings.{Factors}
 use Rattle.planner.proofs.Lowering.{factor_of, lowered}
 use Rattle.planner.proofs.Orders.{not_later_earlier}
-use Rattle.planner.proofs.Placing.{Agree, booked_within, places_agree, places_among, places_set, places_skip}
+use Rattle.planner.proofs.Placing.{booked_within, places_agree, places_among, places_set, places_skip}
 
 pub reaches_less : {L : Type 0} (K : Kind L) (ps : Places) (m n : ℕ) → m ≤ n → Reaches K ps n → Reaches K ps m
 reaches_less K ps m n low r = (r.0, omega (arith, r.1))

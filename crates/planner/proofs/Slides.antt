@@ -1,5 +1,5 @@
 -- A list of boxes all of whose clocks are moved by the same number of ticks draws the same, that much later.
-use Rattle.std.proofs.Common.{◌≡◌, ℕ, zero, suc, ◌+◌, ◌-◌, ◌*◌, ◌/◌, ◌%◌, ◌<◌, ◌≤◌, true, eqb, List, [], ◌∷◌, map, length, get_or, Some, None, Option, sym, refl, ap, ◌∙◌, subst, mod-lt, mod-eq_of_lt, mul-add, arith}
+use Rattle.std.proofs.Common.{◌≡◌, ℕ, zero, suc, ◌+◌, ◌-◌, ◌*◌, ◌/◌, ◌%◌, ◌<◌, ◌≤◌, eqb, List, [], ◌∷◌, map, length, get_or, Some, None, Option, sym, refl, ap, ◌∙◌, subst, mod-eq_of_lt, mul-add, arith}
 use Prim.Native.Nat.{◌∣◌}
 use native.Mathlib.Nat.{add-mul-mod_self_right, dvd-mul_left, dvd-mul_right_of_dvd, dvd-sub, dvd_trans, mod-add-div, mod-add-mod, add-mod-mod}
 use Rattle.std.specs.List.{AllByRecursion}
@@ -12,11 +12,10 @@ use Rattle.congruence.proofs.Meetings.{mod_more, slide}
 use Rattle.congruence.proofs.Multiples.{lcm_exists}
 use Rattle.load.specs.Kinds.{Kind, Laws}
 use Rattle.draws.specs.declared.draw.Draw.{Draw}
-use Rattle.draws.specs.Draws.{Places, Reaches, at_tick, drawing, due, load_of, periods_of, total}
+use Rattle.draws.specs.Draws.{Places, Reaches, drawing, due, load_of, periods_of, total}
 use Rattle.draws.specs.Factors.{Factor}
 use Rattle.draws.proofs.Bits.{same_test}
 use Rattle.draws.proofs.Cliques.{AllValid}
-use Rattle.draws.proofs.Factoring.{factor_divides, factor_some}
 use Rattle.draws.proofs.Peaks.{total_places}
 use Rattle.draws.proofs.Periods.{periods_all, periods_at}
 use Rattle.draws.proofs.Totals.{total_same}

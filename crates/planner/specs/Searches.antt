@@ -1,5 +1,5 @@
 -- Where a search for the best choice stands: for the contracts of private functions only.
-use Rattle.std.specs.Prelude.{◌≡◌, ℕ, ◌<◌, ◌≤◌, ◌⊎◌, List, length, Some, None, slice_index, slice_set}
+use Rattle.std.specs.Prelude.{◌≡◌, ℕ, ◌<◌, ◌≤◌, ◌⊎◌, List, length, Some, slice_index, slice_set}
 use Rattle.load.specs.Kinds.{Kind}
 use Rattle.draws.specs.Draws.{Passes, Peak, Places, Reaches}
 use Rattle.table.specs.declared.slot.Booking.{Booking}

@@ -1,9 +1,7 @@
 -- How many distinct settings the booked boxes of a table have.
 use Rattle.std.specs.Prelude.{◌≡◌, ℕ, ◌*◌, ◌<◌, ◌≤◌, List, [], ◌∷◌, length, Some, None, Option, slice_index, slice_index_or}
-use Rattle.draws.specs.declared.draw.Draw.{Draw}
 use Rattle.draws.specs.Draws.{periods_of}
 use Rattle.draws.specs.Factors.{Factor}
-use Rattle.table.specs.declared.slot.Booking.{Booking}
 use Rattle.table.specs.declared.slot.Slot.{Slot}
 use Rattle.table.specs.declared.slot.Slot.TheVariants.{Empty, Booked, Running}
 use Rattle.table.specs.Tables.{places}

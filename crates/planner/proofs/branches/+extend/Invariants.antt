@@ -8,4 +8,4 @@ decreases-extend g l = 24 - l.socket
 
 abbrev pub invariant-loop-wait : goal.invariant-loop-wait
 invariant-loop-wait g l =
-    Outcome g.L.Load.kind l.space.table.slots (λ v. Completes l.space.table.slots l.space.factors l.socket (waits_of l.prefix.waits) v × (v l.socket < l.wait)) l.initial.so-far l.so-far
+    Outcome g.L.Load.kind l.space.table.slots (λ v. Completes l.space.table.slots l.space.factors l.socket (waits_of l.prefix.waits) v × (v l.socket < l.wait)) l.initial.so_far l.so_far

@@ -1,7 +1,7 @@
-use Rattle.std.proofs.Common.{◌≡◌, ◌+◌, ◌*◌, ◌<◌, ◌≤◌, length, get_or, take, sym, ap, ◌∙◌, subst, arith}
+use Rattle.std.proofs.Common.{◌≡◌, ◌+◌, ◌*◌, ◌<◌, get_or, take, sym, ap, ◌∙◌, arith}
 use Rattle.std.proofs.ByRecursion.{All-from_get_or}
 use Rattle.std.proofs.lemmas.List.{take_all}
-use Rattle.planner.specs.Settings.{most_settings, product}
+use Rattle.planner.specs.Settings.{product}
 use Rattle.planner.proofs.Products.{product_bound, product_front, product_more}
 use Rattle.planner.proofs.counting.product.Goals as goal
 use Rattle.planner.proofs.counting.product.Goals.{After-from-n}

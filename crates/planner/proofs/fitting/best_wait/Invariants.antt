@@ -1,4 +1,4 @@
-use Rattle.std.proofs.Common.{◌<◌, ◌≤◌}
+use Rattle.std.proofs.Common.{◌<◌}
 use Rattle.planner.specs.Searches.{BestWait}
 use Rattle.planner.proofs.fitting.best_wait.Given as goal
 
