@@ -6,7 +6,7 @@ use Rattle.congruence.specs.Clocks.{Valid}
 use Rattle.draws.specs.declared.draw.Draw.{Draw}
 use Rattle.draws.specs.Checks.{draw_fault}
 use Rattle.draws.specs.Draws.{Places}
-use Rattle.draws.proofs.Sounds.{fault_none, sound_valid}
+use Rattle.draws.proofs.Sounds.{sound_valid}
 use Rattle.table.specs.declared.slot.Booking.{Booking}
 use Rattle.table.specs.declared.slot.Slot.{Slot}
 use Rattle.table.specs.declared.slot.Slot.TheVariants.{Empty, Booked, Running}
@@ -17,9 +17,6 @@ use Rattle.table.specs.Tables.{place_of, places, places_from, running}
 -- two slots that differ in kind
 pub empty_booked : {b : Booking} → ◌≡◌ {A = Slot} Empty (Booked b) → ⊥
 empty_booked e = let z : ◌≡◌ {A = ℕ} 0 1 = cc in omega arith
-
-pub empty_running : {d : Draw} → ◌≡◌ {A = Slot} Empty (Running d) → ⊥
-empty_running e = let z : ◌≡◌ {A = ℕ} 0 1 = cc in omega arith
 
 pub booked_same : {b c : Booking} → ◌≡◌ {A = Slot} (Booked b) (Booked c) → b ≡ c
 booked_same e = cc
@@ -123,6 +120,3 @@ running_valid table s d e = sound_valid d (ap sound_slot (sym e) ∙ sound_at ta
 -- and so can a booked one that has started
 pub started_valid : {b : Booking} {w : ℕ} → Bookable b → w < b.period → Valid (started b w).clock
 started_valid fits below = record { some = fits.some; most = fits.most; below = below }
-
-pub started_fits : {b : Booking} {w : ℕ} → Bookable b → w < b.period → draw_fault (started b w) ≡ None
-started_fits {b} {w} fits below = fault_none (started b w) (started_valid fits below) fits.range

@@ -3,7 +3,7 @@ use Rattle.std.proofs.lemmas.Bool.{cases_lt, false≢true}
 use Rattle.std.proofs.lemmas.List.{get_or_past, get_or-replicate}
 use Rattle.load.specs.Kinds.{Kind, Laws}
 use Rattle.draws.specs.Draws.{Peak, Reaches, Passes}
-use Rattle.draws.proofs.Peaks.{reaches_more, reaches_peak}
+use Rattle.draws.proofs.Peaks.{reached_below, reaches_more, reaches_peak}
 use Rattle.table.specs.declared.slot.Slot.{Slot}
 use Rattle.table.specs.declared.table.Table.{Table}
 use Rattle.table.specs.Tables.{running}
@@ -40,7 +40,7 @@ module _ {L : Type 0} (K : Kind L) (laws : Laws K) (table : Table) where
   -- what the fitted choice reaches as well as every other, and the lower of its peak and the limit does not, passes the limit
   limit_passed : (fit limit bar n : ℕ) (w : ℕ → ℕ) → Peak K (chosen table.slots w) fit → bar ≡ min fit limit → bar < n → Reaches K (chosen table.slots w) n → (v : ℕ → ℕ) → Reaches K (chosen table.slots v) n → Passes K (chosen table.slots v) limit
   limit_passed fit limit bar n w is least above here v there =
-      let low : n ≤ fit = omega (arith, here.1, is.most here.0) in
+      let low = reached_below K n here is in
       (there.0, omega (arith, there.1))
 
 pub returns-then-from-bar : goal.returns-then-from-bar
