@@ -3,6 +3,7 @@ pub mod Links
 pub mod Meetings
 pub mod Multiples
 pub mod Merges
-pub mod Remains
-pub mod Places
+pub mod Tries
+pub mod Passes
 pub mod Firsts
+pub mod Verdicts

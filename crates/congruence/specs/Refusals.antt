@@ -1,5 +1,5 @@
 -- Which refusal is told: that of the first check that fails.
-use Rattle.std.specs.Prelude.{ℕ, Bool, cond, ◌&&◌, List, [], ◌∷◌, Some, None, Option, nat_le, nat_lt}
+use Rattle.std.specs.Prelude.{ℕ, Bool, if◌then◌else◌, ◌&&◌, List, [], ◌∷◌, Ok, Err, Result, nat_le, nat_lt}
 use Rattle.congruence.specs.declared.clocks.Clock.{Clock}
 use Rattle.congruence.specs.declared.refusals.Refusal.{Refusal}
 use Rattle.congruence.specs.declared.refusals.Refusal.TheVariants.{PeriodOutOfRange, WaitNotBelowPeriod}
@@ -8,9 +8,10 @@ pub record Check : Type 0 where
   pub passes : Bool
   pub refusal : Refusal
 
-abbrev pub first_failed : List Check → Option Refusal
-first_failed [] = None
-first_failed (c ∷ cs) = cond c.passes (first_failed cs) (Some c.refusal)
+-- the refusal of the first check that fails
+abbrev pub verdict : List Check → Result (Unit {0}) Refusal
+verdict [] = Ok tt
+verdict (c ∷ cs) = if c.passes then verdict cs else Err c.refusal
 
 abbrev pub period_check : ℕ → Check
 period_check p = record { passes = nat_lt 0 p && nat_le p 1000; refusal = PeriodOutOfRange }

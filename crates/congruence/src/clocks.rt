@@ -1,9 +1,9 @@
 // A box's clock, and which clocks ever have their boxes draw in one tick.
-ghost use Rattle.std.specs.Prelude.{◌≡◌, [], ◌∷◌, Decides, MatchOption, MatchResult};
+ghost use Rattle.std.specs.Prelude.{◌≡◌, ◌↔◌, [], ◌∷◌, IsTrue, IsOk, MatchResult};
 ghost use Rattle.std.specs.List.{AllByRecursion};
 ghost use Rattle.congruence.specs.Clocks.{Valid, Meet, MeetByGcd, MeetByPairs, Slide};
-ghost use Rattle.congruence.specs.FirstTicks.{Refused};
-ghost use Rattle.congruence.specs.Refusals.{first_failed, clock_checks};
+ghost use Rattle.congruence.specs.FirstTicks.{IsFirstRefused};
+ghost use Rattle.congruence.specs.Refusals.{verdict, clock_checks};
 
 use crate::numbers::gcd;
 use crate::refusals::Refusal;
@@ -11,7 +11,8 @@ use crate::refusals::Refusal;
 // The longest period of a box, in ticks.
 pub const LONGEST_PERIOD: u16 = 1_000;
 
-// A running box's clock: it draws after `wait` more ticks, and every `period` ticks from then on.
+// A running box's clock: it draws after `wait` more ticks, and every `period` ticks from then on. Its fields are
+// open and not held to their ranges: the calls below answer for clocks that no box can have as well.
 #[derive(Clone, Copy, Debug, PartialEq, Eq)]
 pub struct Clock {
     pub period: u16,
@@ -19,24 +20,24 @@ pub struct Clock {
 }
 
 impl Clock {
-    // Why no box can have this clock; None for one that a box can have.
-    pub fn fault(self) -> Option<Refusal>
-        ensures value { result ≡ first_failed (clock_checks self) }
-        ensures valid { MatchOption result (Valid self) (λ _. Valid self → ⊥) }
+    // Refuses a clock that no box can have.
+    pub fn check(self) -> Result<(), Refusal>
+        ensures told { result ≡ verdict (clock_checks self) }
+        ensures valid { IsOk result ↔ Valid self }
     {
         if self.period == 0 || self.period > LONGEST_PERIOD {
-            Some(Refusal::PeriodOutOfRange)
+            Err(Refusal::PeriodOutOfRange)
         } else if self.wait >= self.period {
-            Some(Refusal::WaitNotBelowPeriod)
+            Err(Refusal::WaitNotBelowPeriod)
         } else {
-            None
+            Ok(())
         }
     }
 
     fn is_valid(self) -> bool
-        ensures { Decides result (Valid self) }
+        ensures { IsTrue result ↔ Valid self }
     {
-        self.fault().is_none()
+        self.check().is_ok()
     }
 }
 
@@ -47,21 +48,21 @@ pub struct RefusedClock {
     pub refusal: Refusal,
 }
 
-// Every clock of the list, or the first that no box can have.
+// Refuses the first clock of a list that no box can have.
 pub fn check_clocks(clocks: &[Clock]) -> Result<(), RefusedClock>
-    ensures { MatchResult result (λ _. AllByRecursion Valid clocks.now) (λ e. Refused clocks.now e) }
+    ensures { MatchResult result (λ _. AllByRecursion Valid clocks.now) (IsFirstRefused clocks.now) }
 {
     for (place, clock) in clocks.iter().enumerate() {
-        if let Some(refusal) = clock.fault() {
-            return Err(RefusedClock { place, refusal });
-        }
+        clock
+            .check()
+            .map_err(|refusal| RefusedClock { place, refusal })?;
     }
     Ok(())
 }
 
 // Whether some tick has both boxes draw. No box has a clock that is not valid.
 pub fn meets(a: Clock, b: Clock) -> bool
-    ensures value { Decides result (Valid a × Valid b × Meet (a ∷ (b ∷ []))) }
+    ensures value { IsTrue result ↔ (Valid a × Valid b × Meet (a ∷ (b ∷ []))) }
     ensures by_gcd { MeetByGcd }
 {
     if !a.is_valid() || !b.is_valid() {
@@ -73,29 +74,20 @@ pub fn meets(a: Clock, b: Clock) -> bool
 
 // Whether the clock is valid and meets each of the others.
 fn meets_each(clock: Clock, others: &[Clock]) -> bool
-    ensures { Decides result (Valid clock × AllByRecursion (λ d. Valid d × Meet (clock ∷ (d ∷ []))) others.now) }
+    ensures { IsTrue result
+        ↔ (Valid clock × AllByRecursion (λ d. Valid d × Meet (clock ∷ (d ∷ []))) others.now) }
 {
-    if !clock.is_valid() {
-        return false;
-    }
-    for other in others {
-        if !meets(clock, *other) {
-            return false;
-        }
-    }
-    true
+    clock.is_valid() && others.iter().all(|other| meets(clock, *other))
 }
 
 // Whether some tick has all of them draw: each two have to meet.
 pub fn all_meet(clocks: &[Clock]) -> bool
-    ensures value { Decides result (AllByRecursion Valid clocks.now × Meet clocks.now) }
+    ensures value { IsTrue result ↔ (AllByRecursion Valid clocks.now × Meet clocks.now) }
     ensures by_pairs { MeetByPairs }
     ensures slide { Slide }
 {
-    for (place, clock) in clocks.iter().enumerate() {
-        if !meets_each(*clock, &clocks[place + 1..]) {
-            return false;
-        }
+    match clocks {
+        [] => true,
+        [clock, others @ ..] => meets_each(*clock, others) && all_meet(others),
     }
-    true
 }

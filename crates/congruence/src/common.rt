@@ -1,10 +1,11 @@
 // The first tick that all boxes of a group share, worked out box by box.
-ghost use Rattle.std.specs.Prelude.{◌<◌, ◌≤◌, List, [], ◌∷◌, ◌++◌};
+ghost use Rattle.std.specs.Prelude.{◌≡◌, ◌<◌, ◌≤◌, List, [], ◌∷◌, ◌++◌};
 ghost use Rattle.congruence.specs.declared.clocks.Clock.{Clock};
+ghost use Rattle.congruence.specs.declared.common.NoCommonTick.TheVariants.{Refused};
 ghost use Rattle.std.specs.List.{AllByRecursion};
 ghost use Rattle.congruence.specs.Clocks.{Valid, periods};
 ghost use Rattle.congruence.specs.Divisors.{LcmBeyond, bound};
-ghost use Rattle.congruence.specs.FirstTicks.{Answer, FirstOf};
+ghost use Rattle.congruence.specs.FirstTicks.{Answer};
 ghost use Rattle.congruence.specs.Merging.{Merged, Merges};
 
 use crate::clocks::{Clock, RefusedClock, all_meet, check_clocks};
@@ -17,25 +18,26 @@ pub struct Shared {
     pub step: u64,
 }
 
-// What one more box leaves of the shared ticks.
-#[derive(Clone, Copy, Debug)]
-pub enum MergeResult {
-    Met(Shared),
-    Missed,
-    TooLong,
-}
-
+// Why the boxes of a list share no tick.
 #[derive(Clone, Copy, Debug, PartialEq, Eq)]
-pub enum FirstTick {
+pub enum NoCommonTick {
+    // The first clock that no box can have.
+    Refused(RefusedClock),
     // No tick has all of them draw.
     Never,
-    // Some tick has, but the least common multiple of the periods exceeds 10^18.
-    Beyond,
-    At(u64),
 }
 
-// Tries the shared ticks of one new cycle, at most `clock.period` of them.
-fn merge(so_far: Shared, clock: Clock) -> MergeResult
+impl From<RefusedClock> for NoCommonTick {
+    ghost from_gives = { λ e r. r ≡ Refused e };
+
+    fn from(e: RefusedClock) -> NoCommonTick {
+        NoCommonTick::Refused(e)
+    }
+}
+
+// What one more box leaves of the shared ticks; None where the least common multiple exceeds 10^18. The ticks of
+// one new cycle are tried, at most `clock.period` of them.
+fn merge(so_far: Shared, clock: Clock) -> Result<Option<Shared>, NoCommonTick>
     requires valid { Valid clock }
     requires within { so_far.tick < so_far.step }
     requires bounded { so_far.step ≤ bound }
@@ -44,43 +46,40 @@ fn merge(so_far: Shared, clock: Clock) -> MergeResult
     let period = u64::from(clock.period);
     let wait = u64::from(clock.wait);
     let Some(next) = lcm(so_far.step, period) else {
-        return MergeResult::TooLong;
+        return Ok(None);
     };
-    let mut tick = so_far.tick;
-    for _tried in 0..next / so_far.step {
-        if tick % period == wait {
-            return MergeResult::Met(Shared { tick, step: next });
-        }
-        tick += so_far.step;
+    let mut tried = (so_far.tick..next).step_by(so_far.step as usize);
+    match tried.find(|tick| tick % period == wait) {
+        Some(tick) => Ok(Some(Shared { tick, step: next })),
+        None => Err(NoCommonTick::Never),
     }
-    MergeResult::Missed
 }
 
-// The first tick at which all of them draw; that of no clock is 0.
-pub fn first_common_tick(clocks: &[Clock]) -> Result<FirstTick, RefusedClock>
+// The first tick at which all of them draw, that of no clock being 0; None where some tick has them all draw, but
+// the least common multiple of their periods exceeds 10^18.
+pub fn first_common_tick(clocks: &[Clock]) -> Result<Option<u64>, NoCommonTick>
     ensures { Answer clocks.now result }
 {
     check_clocks(clocks)?;
     let mut so_far = Shared { tick: 0, step: 1 };
     for clock in clocks {
-        match merge(so_far, *clock) {
-            MergeResult::Met(shared) => so_far = shared,
-            MergeResult::Missed => return Ok(FirstTick::Never),
-            MergeResult::TooLong => return Ok(past_the_bound(clocks)),
-        }
+        let Some(shared) = merge(so_far, *clock)? else {
+            return past_the_bound(clocks);
+        };
+        so_far = shared;
     }
-    Ok(FirstTick::At(so_far.tick))
+    Ok(Some(so_far.tick))
 }
 
 // What is known of a group whose periods have a multiple too large to go on merging.
-fn past_the_bound(clocks: &[Clock]) -> FirstTick
+fn past_the_bound(clocks: &[Clock]) -> Result<Option<u64>, NoCommonTick>
     requires valid { AllByRecursion Valid clocks.now }
     requires beyond { LcmBeyond (periods clocks.now) }
-    ensures { FirstOf clocks.now result }
+    ensures { Answer clocks.now result }
 {
     if all_meet(clocks) {
-        FirstTick::Beyond
+        Ok(None)
     } else {
-        FirstTick::Never
+        Err(NoCommonTick::Never)
     }
 }

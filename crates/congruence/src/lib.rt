@@ -8,6 +8,6 @@ mod numbers;
 mod refusals;
 
 pub use clocks::{Clock, RefusedClock, all_meet, check_clocks, meets};
-pub use common::{FirstTick, first_common_tick};
+pub use common::{NoCommonTick, first_common_tick};
 pub use numbers::{gcd, lcm, lcm_of};
 pub use refusals::Refusal;

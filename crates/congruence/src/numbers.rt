@@ -14,19 +14,17 @@ pub fn gcd(a: u64, b: u64) -> u64
 
 // None exactly where the least common multiple exceeds 10^18.
 pub fn lcm(a: u64, b: u64) -> Option<u64>
-    ensures { MatchOption result (LcmBeyond (a ∷ (b ∷ []))) (λ m. LcmWithin (a ∷ (b ∷ [])) m) }
+    ensures { MatchOption result (LcmBeyond (a ∷ (b ∷ []))) (LcmWithin (a ∷ (b ∷ []))) }
 {
     if a == 0 {
         return Some(0);
     }
-    let m = (a / gcd(a, b)).checked_mul(b)?;
-    let within = m <= LCM_BOUND;
-    if within { Some(m) } else { None }
+    (a / gcd(a, b)).checked_mul(b).filter(|m| *m <= LCM_BOUND)
 }
 
 // Of a whole list; of no number it is 1.
 pub fn lcm_of(numbers: &[u64]) -> Option<u64>
-    ensures { MatchOption result (LcmBeyond numbers.now) (λ m. LcmWithin numbers.now m) }
+    ensures { MatchOption result (LcmBeyond numbers.now) (LcmWithin numbers.now) }
 {
     if numbers.contains(&0) {
         return Some(0);

@@ -1,5 +1,6 @@
 // Which two clocks meet.
-use congruence::{Clock, meets};
+use crate::groups::clock_of;
+use congruence::meets;
 
 // The period and the wait of two clocks, and whether they meet.
 static PAIRS: [((u16, u16), (u16, u16), bool); 20] = [
@@ -26,15 +27,12 @@ static PAIRS: [((u16, u16), (u16, u16), bool); 20] = [
     ((u16::MAX, u16::MAX), (1, 0), false),
 ];
 
-fn clock((period, wait): (u16, u16)) -> Clock {
-    Clock { period, wait }
-}
-
 // In either order; a clock that no box can have meets none.
 #[test]
 fn clocks_meet_where_the_gcd_divides_the_difference_of_waits(rt: HostRuntime) {
     for (a, b, meet) in &PAIRS {
-        let both = (meets(clock(*a), clock(*b)), meets(clock(*b), clock(*a)));
+        let (first, second) = (clock_of(a), clock_of(b));
+        let both = (meets(first, second), meets(second, first));
         assert_eq!(rt; both, (*meet, *meet), "of {a:?} and {b:?}");
     }
 }

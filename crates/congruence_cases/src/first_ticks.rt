@@ -1,23 +1,23 @@
 // The first common tick: worked examples, and the bounds of clocks and multiples.
 use crate::groups::{Row, check_rows};
-use congruence::FirstTick::{At, Beyond, Never};
+use congruence::NoCommonTick::Never;
 use std::test::Fail;
 
 static EXAMPLES: [Row; 5] = [
-    (&[], At(0)),
-    (&[(5, 1), (3, 2)], At(11)),
-    (&[(4, 0), (6, 1)], Never),
-    (&[(4, 0), (6, 2)], At(8)),
-    (&[(4, 3), (9, 5)], At(23)),
+    (&[], Ok(Some(0))),
+    (&[(5, 1), (3, 2)], Ok(Some(11))),
+    (&[(4, 0), (6, 1)], Err(Never)),
+    (&[(4, 0), (6, 2)], Ok(Some(8))),
+    (&[(4, 3), (9, 5)], Ok(Some(23))),
 ];
 
 // The shortest and the longest periods, and groups of 24.
 static BOUNDS: [Row; 6] = [
-    (&[(1, 0)], At(0)),
-    (&[(1_000, 0)], At(0)),
-    (&[(1_000, 999)], At(999)),
-    (&[(1_000, 0), (1_000, 999)], Never),
-    (&[(1_000, 999); 24], At(999)),
+    (&[(1, 0)], Ok(Some(0))),
+    (&[(1_000, 0)], Ok(Some(0))),
+    (&[(1_000, 999)], Ok(Some(999))),
+    (&[(1_000, 0), (1_000, 999)], Err(Never)),
+    (&[(1_000, 999); 24], Ok(Some(999))),
     // remainders of 987_654_321_098_765; the least common multiple is 5_354_228_880
     (
         &[
@@ -46,7 +46,7 @@ static BOUNDS: [Row; 6] = [
             (23, 10),
             (24, 5),
         ],
-        At(2_553_436_205),
+        Ok(Some(2_553_436_205)),
     ),
 ];
 
@@ -55,7 +55,7 @@ static MULTIPLES: [Row; 8] = [
     // the multiple is 890_969_009_638_765_049
     (
         &[(997, 0), (991, 0), (983, 0), (977, 0), (971, 0), (967, 0)],
-        At(0),
+        Ok(Some(0)),
     ),
     (
         &[
@@ -66,7 +66,7 @@ static MULTIPLES: [Row; 8] = [
             (971, 278),
             (967, 470),
         ],
-        At(123_456_789_012_345_678),
+        Ok(Some(123_456_789_012_345_678)),
     ),
     (
         &[
@@ -77,7 +77,7 @@ static MULTIPLES: [Row; 8] = [
             (971, 970),
             (967, 966),
         ],
-        At(890_969_009_638_765_048),
+        Ok(Some(890_969_009_638_765_048)),
     ),
     // 999_954_863_203_474_290
     (
@@ -90,7 +90,7 @@ static MULTIPLES: [Row; 8] = [
             (331, 330),
             (395, 394),
         ],
-        At(999_954_863_203_474_289),
+        Ok(Some(999_954_863_203_474_289)),
     ),
     // 1_000_007_825_798_684_010
     (
@@ -103,7 +103,7 @@ static MULTIPLES: [Row; 8] = [
             (359, 0),
             (433, 0),
         ],
-        Beyond,
+        Ok(None),
     ),
     // above 2^64, as in those below
     (
@@ -116,7 +116,7 @@ static MULTIPLES: [Row; 8] = [
             (967, 0),
             (953, 0),
         ],
-        Beyond,
+        Ok(None),
     ),
     // the last clock never meets the first
     (
@@ -130,7 +130,7 @@ static MULTIPLES: [Row; 8] = [
             (953, 0),
             (997, 1),
         ],
-        Never,
+        Err(Never),
     ),
     // the last two never meet
     (
@@ -145,7 +145,7 @@ static MULTIPLES: [Row; 8] = [
             (1_000, 0),
             (998, 1),
         ],
-        Never,
+        Err(Never),
     ),
 ];
 

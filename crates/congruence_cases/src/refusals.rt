@@ -1,6 +1,8 @@
 // Which clock of a group is refused, and why.
 use crate::groups::group_of;
-use congruence::{Clock, Refusal, RefusedClock, all_meet, check_clocks, first_common_tick};
+use congruence::{
+    Clock, NoCommonTick, Refusal, RefusedClock, all_meet, check_clocks, first_common_tick,
+};
 use std::process::Abort;
 use std::test::Fail;
 
@@ -25,18 +27,22 @@ static REFUSED: [(&[(u16, u16)], usize, Refusal); 12] = [
 ];
 
 fn first_fault(clocks: &[Clock]) -> Option<RefusedClock> {
-    for (place, clock) in clocks.iter().enumerate() {
-        if let Some(refusal) = clock.fault() {
-            return Some(RefusedClock { place, refusal });
-        }
-    }
-    None
+    clocks.iter().enumerate().find_map(|(place, clock)| {
+        clock
+            .check()
+            .err()
+            .map(|refusal| RefusedClock { place, refusal })
+    })
 }
 
 fn check_refused(rt: &impl Abort, clocks: &[Clock], refused: RefusedClock) {
     assert_eq!(rt; first_fault(clocks), Some(refused), "of {clocks:?}");
     assert_eq!(rt; check_clocks(clocks), Err(refused), "of {clocks:?}");
-    assert_eq!(rt; first_common_tick(clocks), Err(refused), "of {clocks:?}");
+    assert_eq!(rt;
+        first_common_tick(clocks),
+        Err(NoCommonTick::Refused(refused)),
+        "of {clocks:?}"
+    );
     assert!(rt; !all_meet(clocks), "of {clocks:?}");
 }
 

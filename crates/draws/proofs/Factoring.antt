@@ -1,26 +1,28 @@
--- The factor of a period, box by box.
-use Rattle.std.proofs.Common.{ℕ, ◌<◌, ◌≤◌, List, [], ◌∷◌, ◌++◌, subst}
+-- The factor of a period beside the boxes of a list.
+use Rattle.std.proofs.Common.{◌≡◌, ℕ, ◌<◌, ◌≤◌, List, [], ◌∷◌, length, get_or, None, subst}
 use Prim.Native.Nat.{◌∣◌}
-use native.Mathlib.Nat.{dvd_trans, one-dvd, pos_of_dvd_of_pos, le_of_dvd}
+use native.Mathlib.Nat.{pos_of_dvd_of_pos, le_of_dvd}
 use Rattle.std.specs.List.{AllByRecursion}
-use Rattle.std.proofs.ByRecursion.{All-append, All-weaker}
 use Rattle.congruence.specs.Divisors.{IsGcd, IsLcm}
 use Rattle.congruence.proofs.Euclid.{gcd_unique}
-use Rattle.congruence.proofs.Multiples.{all_split}
+use Rattle.draws.specs.declared.draw.Draw.{Draw}
+use Rattle.draws.specs.Draws.{Places, periods_of}
+use Rattle.draws.proofs.Lcms.{StandsFor, divides_lcm, lcm_divides}
+use Rattle.draws.proofs.Periods.{periods_all, periods_at}
 use Rattle.draws.specs.Factors.{Factor}
 
-pub factor_none : (p : ℕ) → Factor [] p 1
-factor_none p = record { multiple = tt; least = λ k all. one-dvd k }
-
--- one more period
-pub factor_push : (qs : List ℕ) (p q g h m : ℕ) → IsGcd p q g → Factor qs p h → IsLcm (h ∷ (g ∷ [])) m → Factor (qs ++ q ∷ []) p m
-factor_push qs p q g h m is old l = record {
-  multiple =
-      All-append (λ n. (d : ℕ) → IsGcd p n d → d ∣ m) qs (q ∷ [])
-      (All-weaker (λ n. (d : ℕ) → IsGcd p n d → d ∣ h) (λ n. (d : ℕ) → IsGcd p n d → d ∣ m) (λ n f d is'. dvd_trans d (f d is') l.multiple.0) qs old.multiple)
-      (λ d is'. subst (λ k. k ∣ m) (gcd_unique is is') l.multiple.1.0, tt);
-  least = λ k all. let parts = all_split (λ n. (d : ℕ) → IsGcd p n d → d ∣ k) qs (q ∷ []) all in l.least k (old.least k parts.0, (parts.1.0 g is, tt));
-}
+-- the least common multiple of the gcds, place by place
+pub factor_of_gcds :
+    (ps : Places) (p : ℕ) (gs : List ℕ) (h : ℕ) → length gs ≡ length ps
+    → ((s : ℕ) → s < length ps → StandsFor (λ d. IsGcd p d.clock.period) (get_or ps s None) (get_or gs s 0)) → IsLcm gs h → Factor (periods_of ps) p h
+factor_of_gcds ps p gs h same at l =
+    let Of : Draw → ℕ → Type 0 = λ d. IsGcd p d.clock.period in
+    record {
+      multiple = periods_all (λ q. (g : ℕ) → IsGcd p q g → g ∣ h) ps (λ s d e g is.
+          let n = divides_lcm Of ps gs h same at l s d e in
+          subst (λ k. k ∣ h) (gcd_unique n.1 is) n.2);
+      least = λ k all. lcm_divides Of ps gs h same at l k (λ s d n e is. periods_at (λ q. (g : ℕ) → IsGcd p q g → g ∣ k) ps all s d e n is);
+    }
 
 all_any : {P : ℕ → Type 0} (qs : List ℕ) → ((q : ℕ) → P q) → AllByRecursion P qs
 all_any [] each = tt

@@ -1,5 +1,5 @@
 -- A list that is changed at one place stays within its ranges.
-use Rattle.std.proofs.Common.{◌≡◌, ℕ, ◌<◌, Bool, true, List, length, get_or, set, Some, None, Ok, Err, Option, Result, sym, ap, ◌∙◌, ⊎_elim, arith, MatchResult}
+use Rattle.std.proofs.Common.{◌≡◌, ℕ, ◌<◌, Bool, true, List, length, get_or, set, Ok, Err, Result, OnOk, ap, ◌∙◌, ⊎_elim}
 use Rattle.std.proofs.lemmas.List.{get_or-set_other, get_or-set_same}
 use Rattle.std.proofs.lemmas.Bool.{cases_eq}
 
@@ -11,6 +11,6 @@ set_ranges sound d xs n i v within fits h k below =
     (cases_eq k i)
 
 -- what passes its checks is accepted
-pub accepted : {X E : Type 0} (r : Result X E) (fault : Option E) (P Q : Type 0) → fault ≡ None → MatchResult r (λ _. fault ≡ None) (λ e. fault ≡ Some e) → MatchResult r (λ _. P) (λ _. Q) → P
-accepted (Ok x) fault P Q fits told after = after
-accepted (Err e) fault P Q fits told after = absurd (let z : ◌≡◌ {A = Option _} None (Some e) = sym fits ∙ told in let n : ◌≡◌ {A = ℕ} 0 1 = cc in omega arith)
+pub accepted : {X E : Type 0} (r v : Result X E) (x : X) (P : Type 0) → r ≡ v → v ≡ Ok x → OnOk r P → P
+accepted (Ok y) v x P told fits after = after
+accepted (Err e) v x P told fits after = absurd cc

@@ -1,6 +1,7 @@
 // A box that draws: its clock and its rating.
-ghost use Rattle.std.specs.Prelude.{◌≡◌};
-ghost use Rattle.draws.specs.Checks.{draw_fault};
+ghost use Rattle.std.specs.Prelude.{◌≡◌, ◌<◌, Some};
+ghost use Rattle.draws.specs.Checks.{draw_verdict};
+ghost use Rattle.draws.specs.Draws.{due};
 
 use congruence::{Clock, Refusal};
 use load::Rating;
@@ -12,14 +13,23 @@ pub struct Draw {
 }
 
 impl Draw {
-    // Why no list can hold this; None for what a list can hold.
-    pub fn fault(self) -> Option<Refusal>
-        ensures { result ≡ draw_fault self }
+    // Refuses what no list can hold.
+    pub fn check(self) -> Result<(), Refusal>
+        ensures { result ≡ draw_verdict self }
     {
-        match self.clock.fault() {
-            Some(refusal) => Some(refusal),
-            None if self.rating.is_in_range() => None,
-            None => Some(Refusal::RatingUnlawful),
+        self.clock.check()?;
+        if self.rating.is_in_range() {
+            Ok(())
+        } else {
+            Err(Refusal::RatingUnlawful)
         }
+    }
+
+    // Whether the box draws at a tick.
+    pub(crate) fn is_due(self, tick: u64) -> bool
+        requires { 0 < self.clock.period }
+        ensures { result ≡ due tick (Some self) }
+    {
+        tick % u64::from(self.clock.period) == u64::from(self.clock.wait)
     }
 }

@@ -3,11 +3,10 @@
 
 mod draw;
 mod factors;
+mod groups;
 mod list;
 mod loads;
-mod places;
 
 pub use draw::Draw;
-pub use factors::factor;
+pub use groups::mask_of;
 pub use list::{DrawList, PLACES};
-pub use loads::{drawing_at, load_at, load_of};

@@ -1,11 +1,11 @@
 -- The worked examples, as one list.
-use Rattle.std.specs.Prelude.{◌≡◌, ℕ, ◌≤◌, List, [], ◌∷◌, Some, Option}
+use Rattle.std.specs.Prelude.{◌≡◌, ℕ, ◌≤◌, List, [], ◌∷◌, Some, Ok, Err, Option, Result}
 use Rattle.std.specs.List.{AllByRecursion}
 use Rattle.congruence.specs.declared.clocks.Clock.{Clock}
-use Rattle.congruence.specs.declared.common.FirstTick.{FirstTick}
-use Rattle.congruence.specs.declared.common.FirstTick.TheVariants.{Never, At}
+use Rattle.congruence.specs.declared.common.NoCommonTick.{NoCommonTick}
+use Rattle.congruence.specs.declared.common.NoCommonTick.TheVariants.{Never}
 use Rattle.congruence.specs.Clocks.{Valid}
-use Rattle.congruence.specs.FirstTicks.{FirstOf}
+use Rattle.congruence.specs.FirstTicks.{Answer}
 use Rattle.load.specs.Kinds.{Kind}
 use Rattle.load.specs.Amps.{amps_kind}
 use Rattle.load.specs.Phases.{phases_kind}
@@ -19,8 +19,8 @@ pub data LoadKind : Type 0 where
   inrush : LoadKind
 
 pub data Example : Type 0 where
-  -- boxes, and their first common tick
-  first_tick : List Clock → FirstTick → Example
+  -- boxes, and what is told of their first common tick
+  first_tick : List Clock → Result (Option ℕ) NoCommonTick → Example
   -- places under a kind of load, their peak, and a tick that measures it
   peak_at : LoadKind → Places → ℕ → ℕ → Example
 
@@ -29,7 +29,7 @@ abbrev pub PeakAt : {L : Type 0} → Kind L → Places → ℕ → ℕ → Type 
 PeakAt K ps n tick = (at_tick K ps tick ≡ n) × ((t : ℕ) → at_tick K ps t ≤ n)
 
 abbrev pub Holds : Example → Type 0
-Holds (first_tick cs first) = AllByRecursion Valid cs × FirstOf cs first
+Holds (first_tick cs answer) = Answer cs answer
 Holds (peak_at amps ps n tick) = PeakAt amps_kind ps n tick
 Holds (peak_at phases ps n tick) = PeakAt phases_kind ps n tick
 Holds (peak_at inrush ps n tick) = PeakAt inrush_kind ps n tick
@@ -44,11 +44,11 @@ place p a b c = Some (record { clock = clock p 0; rating = record { a = a; b = b
 
 abbrev pub worked : List Example
 worked =
-    first_tick (clock 5 1 ∷ (clock 3 2 ∷ [])) (At 11)
-    ∷ (first_tick (clock 4 0 ∷ (clock 6 1 ∷ [])) Never
-    ∷ (first_tick (clock 4 0 ∷ (clock 6 2 ∷ [])) (At 8)
-    ∷ (first_tick (clock 4 3 ∷ (clock 9 5 ∷ [])) (At 23)
-    ∷ (first_tick [] (At 0)
+    first_tick (clock 5 1 ∷ (clock 3 2 ∷ [])) (Ok (Some 11))
+    ∷ (first_tick (clock 4 0 ∷ (clock 6 1 ∷ [])) (Err Never)
+    ∷ (first_tick (clock 4 0 ∷ (clock 6 2 ∷ [])) (Ok (Some 8))
+    ∷ (first_tick (clock 4 3 ∷ (clock 9 5 ∷ [])) (Ok (Some 23))
+    ∷ (first_tick [] (Ok (Some 0))
     ∷ (peak_at amps (place 2 1 0 0 ∷ (place 3 2 0 0 ∷ (place 5 3 0 0 ∷ []))) 6 0
     ∷ (peak_at phases (place 1 3 0 0 ∷ (place 1 0 3 0 ∷ [])) 3 0
     ∷ (peak_at phases (place 1 3 0 0 ∷ (place 1 3 0 0 ∷ [])) 6 0

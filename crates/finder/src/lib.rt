@@ -25,5 +25,13 @@ pub trait FullFinder<L: Load>: Finder<L> {
     fn find_any(&mut self, list: &DrawList) -> (u32, u32)
         ensures answer { Found L.Load.kind list.now.places result.0 result.1 }
         ensures before { (ps : Places) → Self.reach self.old ps }
-        ensures after { (ps : Places) → Self.reach self.new ps };
+        ensures after { (ps : Places) → Self.reach self.new ps }
+    {
+        match self.find(list) {
+            Ok(found) => found,
+            Err(_) => unreachable(),
+        }
+    }
+
+    ghost full: { (finder : Self) (ps : Places) → Self.reach finder ps };
 }

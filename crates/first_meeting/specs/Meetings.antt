@@ -1,12 +1,12 @@
 -- What a text says of boxes.
-use Rattle.std.specs.Prelude.{◌≡◌, ℕ, ◌≤◌, min, List, [], map, length, Ok, Err, string_bytes, Result, String, slice_index}
+use Rattle.std.specs.Prelude.{◌≡◌, ℕ, ◌≤◌, min, List, [], map, length, Ok, Err, string_bytes, Option, Result, String, slice_index}
 use Rattle.std.specs.declared.alloc.Global.{Global}
 use Rattle.std.specs.List.{HoldsAt, AllByRecursion}
 use Rattle.congruence.specs.declared.clocks.Clock.{Clock}
-use Rattle.congruence.specs.declared.common.FirstTick.{FirstTick}
+use Rattle.congruence.specs.declared.common.NoCommonTick.{NoCommonTick}
 use Rattle.congruence.specs.declared.refusals.Refusal.{Refusal}
 use Rattle.congruence.specs.Clocks.{Valid}
-use Rattle.congruence.specs.FirstTicks.{FirstOf, Refused}
+use Rattle.congruence.specs.FirstTicks.{Answer, IsFirstRefused}
 use Rattle.rows.specs.declared.RowsFault.{RowsFault}
 use Rattle.rows.specs.declared.RowsFault.TheVariants.{BadLine as BadRow, TooManyRows, Memory as NoMemory}
 use Rattle.rows.specs.Rows.{Lines, Reads, Rows, Said}
@@ -36,10 +36,10 @@ clocks_said = map clock_said
 -- what is told of a text
 abbrev pub Meeting : List ℕ → Result (String Global) Fault → Type 0
 Meeting text (Ok s) =
-    (rs : List Said) × (first : FirstTick) × HasRows text rs × AllByRecursion Valid (clocks_said rs) × FirstOf (clocks_said rs) first × Record (clocks_said rs) first (string_bytes s)
+    (rs : List Said) × (first : Result (Option ℕ) NoCommonTick) × HasRows text rs × AllByRecursion Valid (clocks_said rs) × Answer (clocks_said rs) first × Record (clocks_said rs) first (string_bytes s)
 Meeting text (Err (BadLine n)) = Reads 2 24 text (Err (BadRow n))
 Meeting text (Err (TooManyBoxes n)) = Reads 2 24 text (Err (TooManyRows n))
 Meeting text (Err (BadBox line period wait refusal)) =
-    (rs : List Said) × (place : ℕ) × HasRows text rs × Refused (clocks_said rs) (record { place = place; refusal = refusal })
+    (rs : List Said) × (place : ℕ) × HasRows text rs × IsFirstRefused (clocks_said rs) (record { place = place; refusal = refusal })
     × HoldsAt (λ r. BadBox line period wait refusal ≡ box_fault r refusal) rs place
 Meeting text (Err Memory) = Unit {0}

@@ -1,8 +1,7 @@
 -- The record of a group of boxes, byte by byte.
-use Rattle.std.specs.Prelude.{◌≡◌, ℕ, zero, suc, ◌+◌, ◌⊎◌, List, [], ◌∷◌, ◌++◌, length, Some, None, codes, decimal, Option, MatchOption, slice_index_or}
+use Rattle.std.specs.Prelude.{◌≡◌, ℕ, zero, suc, ◌+◌, ◌⊎◌, List, [], ◌∷◌, ◌++◌, length, Some, None, Ok, Err, codes, decimal, Option, Result, MatchOption, slice_index_or}
 use Rattle.congruence.specs.declared.clocks.Clock.{Clock}
-use Rattle.congruence.specs.declared.common.FirstTick.{FirstTick}
-use Rattle.congruence.specs.declared.common.FirstTick.TheVariants.{Never, Beyond, At}
+use Rattle.congruence.specs.declared.common.NoCommonTick.{NoCommonTick}
 use Rattle.congruence.specs.Clocks.{Valid, Meet, periods}
 use Rattle.congruence.specs.Divisors.{LcmBeyond, LcmWithin}
 
@@ -21,10 +20,10 @@ abbrev pub cycle_line : Option ℕ → List ℕ
 cycle_line (Some m) = codes "lcm of the periods: " ++ (decimal m ++ codes "\n")
 cycle_line None = codes "lcm of the periods: above 10^18\n"
 
-abbrev pub tick_line : FirstTick → List ℕ
-tick_line (At t) = codes "first common tick: " ++ (decimal t ++ codes "\n")
-tick_line Never = codes "first common tick: never\n"
-tick_line Beyond = codes "first common tick: -\n"
+abbrev pub tick_line : Result (Option ℕ) NoCommonTick → List ℕ
+tick_line (Ok (Some t)) = codes "first common tick: " ++ (decimal t ++ codes "\n")
+tick_line (Ok None) = codes "first common tick: -\n"
+tick_line (Err e) = codes "first common tick: never\n"
 
 abbrev pub clock_at : List Clock → ℕ → Clock
 clock_at cs i = slice_index_or cs i (record { period = 0; wait = 0 })
@@ -40,13 +39,22 @@ PairsWith cs j (suc k) text =
     (before : List ℕ) × PairsWith cs j k before
     × ((Meets cs k j × (text ≡ before)) ⊎ ((Meets cs k j → ⊥) × (text ≡ before ++ pair_line (k + 1) (j + 1))))
 
+-- those lines for a box behind the earlier ones, for the first k of them, whichever boxes come later
+abbrev pub PairsOf : List Clock → Clock → ℕ → List ℕ → Type 0
+PairsOf earlier c k text =
+    (later : List Clock) → PairsWith (earlier ++ c ∷ later) (length earlier) k text
+
 -- those lines for each of the first n boxes
 abbrev pub Pairs : List Clock → ℕ → List ℕ → Type 0
 Pairs cs zero text = text ≡ []
 Pairs cs (suc n) text = (before : List ℕ) × (here : List ℕ) × Pairs cs n before × PairsWith cs n n here × (text ≡ before ++ here)
 
--- the whole record of a group whose first common tick is `first`
-pub record Record (cs : List Clock) (first : FirstTick) (text : List ℕ) : Type 0 where
+-- a text of which P holds is written behind the old one
+abbrev pub Writes : (List ℕ → Type 0) → List ℕ → List ℕ → Type 0
+Writes P old new = (text : List ℕ) × P text × (new ≡ old ++ text)
+
+-- the whole record of a group, where `first` is what is told of its first common tick
+pub record Record (cs : List Clock) (first : Result (Option ℕ) NoCommonTick) (text : List ℕ) : Type 0 where
   pub pairs : List ℕ
   pub cycle : Option ℕ
   pub never : Pairs cs (length cs) pairs

@@ -5,6 +5,7 @@ mod meeting;
 mod record;
 
 use meeting::first_meeting;
+use programs::status_of;
 use std::process::ExitCode;
 use std::{env, io};
 
@@ -23,14 +24,8 @@ fn run(rt: &HostRuntime) -> anyhow::Result<()> {
 }
 
 fn main(rt: HostRuntime) -> ExitCode {
-    match run(&rt) {
-        Ok(()) => ExitCode::SUCCESS,
-        Err(e) => {
-            // Where this line can't be written either, the status still tells.
-            let _ = eprintln!(rt; "first_meeting: {e}");
-            ExitCode::FAILURE
-        },
-    }
+    let done = run(&rt);
+    status_of(&rt, "first_meeting", done)
 }
 
 #[cfg(test)]

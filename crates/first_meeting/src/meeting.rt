@@ -5,66 +5,57 @@ ghost use Rattle.first_meeting.specs.declared.meeting.Fault.TheVariants.{Memory}
 ghost use Rattle.first_meeting.specs.Meetings.{clock_said, box_fault, Meeting, FromRows};
 
 use crate::record::meeting_record;
-use congruence::{Clock, Refusal, first_common_tick};
-use rows::{Row, RowsFault, read_rows};
+use congruence::{Clock, Refusal, check_clocks, first_common_tick};
+use rows::{Layout, Row, RowsFault};
 use std::alloc::{AllocError, Global};
-use std::error::Error;
 use std::fmt;
+use thiserror::Error;
 
-// A bank has this many sockets.
-const MOST_BOXES: usize = 24;
+// A row has a period and a wait, and a bank has 24 sockets.
+const BOXES: Layout = Layout {
+    columns: 2,
+    most: 24,
+};
 
 // Why a text has no record, with the number of the line that shows it.
-#[derive(Debug, Drop)]
+#[derive(Debug, Drop, Error)]
 pub enum Fault {
+    #[error("line {0}: expected 'period wait', two whole numbers")]
     BadLine(usize),
+    #[error("line {0}: expected at most 24 boxes")]
     TooManyBoxes(usize),
+    #[error(fmt = write_bad_box)]
     BadBox {
         line: usize,
         period: u32,
         wait: u32,
         refusal: Refusal,
     },
+    #[error("out of memory")]
     Memory,
 }
 
-impl fmt::Display for Fault {
-    fn fmt<W: fmt::Write>(&self, f: &mut fmt::Formatter<W>) -> fmt::Result {
-        match self {
-            Fault::BadLine(line) => write!(
-                f,
-                "line {line}: expected 'period wait', two whole numbers"
-            ),
-            Fault::TooManyBoxes(line) => write!(f, "line {line}: expected at most 24 boxes"),
-            Fault::BadBox {
-                line,
-                period,
-                refusal: Refusal::PeriodOutOfRange,
-                ..
-            } => {
-                write!(
-                    f,
-                    "line {line}: expected a period of 1 to 1000, found {period}"
-                )
-            }
-            Fault::BadBox {
-                line,
-                period,
-                wait,
-                ..
-            } => {
-                write!(
-                    f,
-                    "line {line}: expected a wait below the period {period}, found {wait}"
-                )
-            }
-            Fault::Memory => write!(f, "out of memory"),
-        }
+// A box can only be refused for its period or for its wait.
+fn write_bad_box<W: fmt::Write>(
+    line: &usize,
+    period: &u32,
+    wait: &u32,
+    refusal: &Refusal,
+    f: &mut fmt::Formatter<W>,
+) -> fmt::Result {
+    match refusal {
+        Refusal::PeriodOutOfRange => write!(
+            f,
+            "line {line}: expected a period of 1 to 1000, found {period}"
+        ),
+        _ => write!(
+            f,
+            "line {line}: expected a wait below the period {period}, found {wait}"
+        ),
     }
 }
 
-impl Error for Fault {}
-
+// Written out, since a derived `From` doesn't say which fault it makes.
 impl From<AllocError> for Fault {
     ghost from_gives = { λ _ r. r ≡ Memory };
 
@@ -73,6 +64,7 @@ impl From<AllocError> for Fault {
     }
 }
 
+// Fault by fault, since a fault of the rows is told in this program's words.
 impl From<RowsFault> for Fault {
     ghost from_gives = { λ e r. FromRows e r };
 
@@ -89,20 +81,17 @@ impl From<RowsFault> for Fault {
 fn column(row: &Row, i: usize) -> u32
     ensures { result ≡ slice_index row.now.numbers.items i }
 {
-    if i < row.numbers.len() {
-        row.numbers[i]
-    } else {
-        0
-    }
+    row.numbers.get(i).copied().unwrap_or(0)
 }
 
 // A number that is too large for a clock stays too large.
 fn saturated(n: u32) -> u16
-    ensures { result ≡ min n 65535 }
+    ensures { result ≡ min n u16.MAX }
 {
     u16::try_from(n).unwrap_or(u16::MAX)
 }
 
+// Neither type is this crate's, so that this can be no `From`.
 fn clock_of(row: &Row) -> Clock
     ensures { result ≡ clock_said (said row.now) }
 {
@@ -115,11 +104,7 @@ fn clock_of(row: &Row) -> Clock
 fn clocks_of(heap: Global, rows: &[Row]) -> Result<Vec<Clock>, AllocError>
     ensures { IfOk result (λ v. v.items ≡ map (λ r. clock_said (said r)) rows.now) }
 {
-    let mut clocks = Vec::new(heap);
-    for row in rows {
-        clocks.push(clock_of(row))?;
-    }
-    Ok(clocks)
+    rows.iter().map(clock_of).collect(heap)
 }
 
 // The fault of the row whose clock was refused.
@@ -138,10 +123,10 @@ fn bad_box(row: &Row, refusal: Refusal) -> Fault
 pub fn first_meeting(heap: Global, text: &str) -> Result<String, Fault>
     ensures { Meeting text.now result }
 {
-    let rows = read_rows(heap, text, 2, MOST_BOXES)?;
-    let clocks = clocks_of(heap, rows.as_slice())?;
-    match first_common_tick(clocks.as_slice()) {
-        Ok(first) => Ok(meeting_record(heap, clocks.as_slice(), first)?),
-        Err(refused) => Err(bad_box(&rows[refused.place], refused.refusal)),
+    let rows = BOXES.read(heap, text)?;
+    let clocks = clocks_of(heap, &rows)?;
+    if let Err(refused) = check_clocks(&clocks) {
+        return Err(bad_box(&rows[refused.place], refused.refusal));
     }
+    Ok(meeting_record(heap, &clocks, first_common_tick(&clocks))?)
 }

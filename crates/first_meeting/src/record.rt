@@ -1,76 +1,71 @@
 // The printed record of a group of boxes.
 ghost use Rattle.std.specs.Prelude.{◌≡◌, ℕ, ◌<◌, List, ◌++◌, length, IfOk, string_bytes, OnOk};
 ghost use Rattle.congruence.specs.Clocks.{periods};
-ghost use Rattle.first_meeting.specs.Records.{box_line, box_lines, pair_line, cycle_line, tick_line, PairsWith, Pairs, Record};
+ghost use Rattle.first_meeting.specs.Records.{box_line, box_lines, pair_line, cycle_line, tick_line, Writes, PairsOf, Pairs, Record};
 
-use congruence::{Clock, FirstTick, lcm_of, meets};
+use congruence::{Clock, NoCommonTick, lcm_of, meets};
 use std::alloc::{AllocError, Global};
 
-fn box_line(heap: Global, n: usize, clock: Clock) -> Result<String, AllocError>
-    ensures { IfOk result (λ s. string_bytes s ≡ box_line n clock) }
+fn write_box(out: &mut String, n: usize, clock: Clock) -> Result<(), AllocError>
+    ensures { OnOk result (string_bytes out.new ≡ string_bytes out.old ++ box_line n clock) }
 {
-    let period = clock.period;
-    let wait = clock.wait;
-    format!(in heap; "box {n}: period {period}, wait {wait}\n")
+    let Clock { period, wait } = clock;
+    writeln!(out, "box {n}: period {period}, wait {wait}")
 }
 
-fn pair_line(heap: Global, m: usize, n: usize) -> Result<String, AllocError>
-    ensures { IfOk result (λ s. string_bytes s ≡ pair_line m n) }
+fn write_pair(out: &mut String, m: usize, n: usize) -> Result<(), AllocError>
+    ensures { OnOk result (string_bytes out.new ≡ string_bytes out.old ++ pair_line m n) }
 {
-    format!(in heap; "boxes {m} and {n} never meet\n")
+    writeln!(out, "boxes {m} and {n} never meet")
 }
 
-fn cycle_line(heap: Global, cycle: Option<u64>) -> Result<String, AllocError>
-    ensures { IfOk result (λ s. string_bytes s ≡ cycle_line cycle) }
+fn write_cycle(out: &mut String, cycle: Option<u64>) -> Result<(), AllocError>
+    ensures { OnOk result (string_bytes out.new ≡ string_bytes out.old ++ cycle_line cycle) }
 {
     match cycle {
-        Some(m) => format!(in heap; "lcm of the periods: {m}\n"),
-        None => String::from_str(heap, "lcm of the periods: above 10^18\n"),
+        Some(m) => writeln!(out, "lcm of the periods: {m}"),
+        None => writeln!(out, "lcm of the periods: above 10^18"),
     }
 }
 
-fn tick_line(heap: Global, first: FirstTick) -> Result<String, AllocError>
-    ensures { IfOk result (λ s. string_bytes s ≡ tick_line first) }
+fn write_tick(out: &mut String, first: Result<Option<u64>, NoCommonTick>) -> Result<(), AllocError>
+    ensures { OnOk result (string_bytes out.new ≡ string_bytes out.old ++ tick_line first) }
 {
     match first {
-        FirstTick::At(tick) => format!(in heap; "first common tick: {tick}\n"),
-        FirstTick::Never => String::from_str(heap, "first common tick: never\n"),
-        FirstTick::Beyond => String::from_str(heap, "first common tick: -\n"),
+        Ok(Some(tick)) => writeln!(out, "first common tick: {tick}"),
+        Ok(None) => writeln!(out, "first common tick: -"),
+        Err(_) => writeln!(out, "first common tick: never"),
     }
 }
 
-fn push_boxes(heap: Global, out: &mut String, clocks: &[Clock]) -> Result<(), AllocError>
+fn write_boxes(out: &mut String, clocks: &[Clock]) -> Result<(), AllocError>
     ensures { OnOk result (string_bytes out.new ≡ string_bytes out.old ++ box_lines 1 clocks.now) }
 {
     for (place, clock) in clocks.iter().enumerate() {
-        out.push_str(box_line(heap, place + 1, *clock)?.as_str())?;
+        write_box(out, place + 1, *clock)?;
     }
     Ok(())
 }
 
-// The lines of the boxes before `place` that never meet the box there.
-fn push_pairs(
-    heap: Global,
-    out: &mut String,
-    clocks: &[Clock],
-    place: usize,
-) -> Result<(), AllocError>
-    requires { place < length clocks.now }
-    ensures { OnOk result ((text : List ℕ) × PairsWith clocks.now place place text × (string_bytes out.new ≡ string_bytes out.old ++ text)) }
+// The lines of the earlier boxes that never meet the next one.
+fn write_pairs(out: &mut String, earlier: &[Clock], clock: Clock) -> Result<(), AllocError>
+    ensures { OnOk result (Writes (PairsOf earlier.now clock (length earlier.now))
+        (string_bytes out.old) (string_bytes out.new)) }
 {
-    for other in 0..place {
-        if !meets(clocks[other], clocks[place]) {
-            out.push_str(pair_line(heap, other + 1, place + 1)?.as_str())?;
+    for (place, other) in earlier.iter().enumerate() {
+        if !meets(*other, clock) {
+            write_pair(out, place + 1, earlier.len() + 1)?;
         }
     }
     Ok(())
 }
 
-fn push_all_pairs(heap: Global, out: &mut String, clocks: &[Clock]) -> Result<(), AllocError>
-    ensures { OnOk result ((text : List ℕ) × Pairs clocks.now (length clocks.now) text × (string_bytes out.new ≡ string_bytes out.old ++ text)) }
+fn write_all_pairs(out: &mut String, clocks: &[Clock]) -> Result<(), AllocError>
+    ensures { OnOk result (Writes (Pairs clocks.now (length clocks.now))
+        (string_bytes out.old) (string_bytes out.new)) }
 {
-    for place in 0..clocks.len() {
-        push_pairs(heap, out, clocks, place)?;
+    for (place, clock) in clocks.iter().enumerate() {
+        write_pairs(out, &clocks[..place], *clock)?;
     }
     Ok(())
 }
@@ -78,26 +73,24 @@ fn push_all_pairs(heap: Global, out: &mut String, clocks: &[Clock]) -> Result<()
 fn periods_of(heap: Global, clocks: &[Clock]) -> Result<Vec<u64>, AllocError>
     ensures { IfOk result (λ v. v.items ≡ periods clocks.now) }
 {
-    let mut all = Vec::new(heap);
-    for clock in clocks {
-        all.push(u64::from(clock.period))?;
-    }
-    Ok(all)
+    clocks
+        .iter()
+        .map(|clock| u64::from(clock.period))
+        .collect(heap)
 }
 
-// The record of a group whose first common tick is known.
+// The record of a group, with what is told of its first common tick.
 pub fn meeting_record(
     heap: Global,
     clocks: &[Clock],
-    first: FirstTick,
+    first: Result<Option<u64>, NoCommonTick>,
 ) -> Result<String, AllocError>
     ensures { IfOk result (λ s. Record clocks.now first (string_bytes s)) }
 {
     let mut out = String::new(heap);
-    push_boxes(heap, &mut out, clocks)?;
-    push_all_pairs(heap, &mut out, clocks)?;
-    let cycle = lcm_of(periods_of(heap, clocks)?.as_slice());
-    out.push_str(cycle_line(heap, cycle)?.as_str())?;
-    out.push_str(tick_line(heap, first)?.as_str())?;
+    write_boxes(&mut out, clocks)?;
+    write_all_pairs(&mut out, clocks)?;
+    write_cycle(&mut out, lcm_of(periods_of(heap, clocks)?.as_slice()))?;
+    write_tick(&mut out, first)?;
     Ok(out)
 }

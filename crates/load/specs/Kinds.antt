@@ -1,5 +1,5 @@
 -- What a load kind is, and the laws that every kind owes.
-use Rattle.std.specs.Prelude.{Bool, false, cond, ◌≡◌, ℕ, ◌+◌, ◌≤◌, ◌<◌, leb}
+use Rattle.std.specs.Prelude.{Bool, false, if◌then◌else◌, ◌≡◌, ℕ, ◌+◌, ◌≤◌, ◌<◌, nat_le}
 use Rattle.load.specs.declared.rating.Rating.{Rating}
 use Rattle.load.specs.Ratings.{most_part}
 
@@ -18,7 +18,7 @@ most_size = 64_000_000
 
 -- a sum, or the empty load where the sizes add to more
 abbrev pub if_fits : {L : Type 0} → ℕ → L → L → L
-if_fits size sum none = cond (leb size most_size) sum none
+if_fits size sum none = if nat_le size most_size then sum else none
 
 pub record Laws {L : Type 0} (K : Kind L) : Type 0 where
   pub commutes : (x y : L) → K.size x + K.size y ≤ most_size → K.plus x y ≡ K.plus y x

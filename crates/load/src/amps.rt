@@ -23,7 +23,7 @@ impl Load for Amps {
         if Self::is_lawful(rating) {
             Amps { amps: rating.a }
         } else {
-            Amps { amps: 0 }
+            Self::none()
         }
     }
 
@@ -37,7 +37,7 @@ impl Load for Amps {
                 amps: self.amps + other.amps,
             }
         } else {
-            Amps { amps: 0 }
+            Self::none()
         }
     }
 

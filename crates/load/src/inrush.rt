@@ -1,6 +1,7 @@
 // Inrush: the first part of a rating runs on and adds up, the second is a start current, of which only
 // the largest counts.
-ghost use Rattle.load.specs.Inrush.{inrush_kind};
+ghost use Rattle.std.specs.Prelude.{◌≡◌};
+ghost use Rattle.load.specs.Inrush.{inrush_kind, larger};
 ghost use Rattle.std.proofs.Common.{rules};
 
 use crate::kind::{Load, sizes_fit};
@@ -10,6 +11,14 @@ use crate::rating::Rating;
 pub struct Inrush {
     running: u32,
     start: u32,
+}
+
+impl Inrush {
+    fn larger(self) -> u32
+        ensures { result ≡ larger self }
+    {
+        self.running.max(self.start)
+    }
 }
 
 impl Load for Inrush {
@@ -28,10 +37,7 @@ impl Load for Inrush {
                 start: rating.b,
             }
         } else {
-            Inrush {
-                running: 0,
-                start: 0,
-            }
+            Self::none()
         }
     }
 
@@ -43,16 +49,13 @@ impl Load for Inrush {
     }
 
     fn plus(self, other: Inrush) -> Inrush {
-        if sizes_fit(self.running.max(self.start), other.running.max(other.start)) {
+        if sizes_fit(self.larger(), other.larger()) {
             Inrush {
                 running: self.running + other.running,
                 start: self.start.max(other.start),
             }
         } else {
-            Inrush {
-                running: 0,
-                start: 0,
-            }
+            Self::none()
         }
     }
 

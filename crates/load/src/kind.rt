@@ -1,5 +1,5 @@
 // The interface of a load kind.
-ghost use Rattle.std.specs.Prelude.{◌≡◌, leb, ◌+◌};
+ghost use Rattle.std.specs.Prelude.{◌≡◌, nat_le, ◌+◌};
 ghost use Rattle.load.specs.Kinds.{Kind, Laws, most_size};
 
 use crate::rating::Rating;
@@ -35,7 +35,7 @@ pub trait Load: Copy {
 
 // Whether two sizes are ones for which the laws are owed.
 pub fn sizes_fit(x: u32, y: u32) -> bool
-    ensures { result ≡ leb (x + y) most_size }
+    ensures { result ≡ nat_le (x + y) most_size }
 {
     u64::from(x) + u64::from(y) <= MOST_SIZE
 }

@@ -38,7 +38,7 @@ impl Load for Phases {
                 c: rating.c,
             }
         } else {
-            Phases { a: 0, b: 0, c: 0 }
+            Self::none()
         }
     }
 
@@ -54,7 +54,7 @@ impl Load for Phases {
                 c: self.c + other.c,
             }
         } else {
-            Phases { a: 0, b: 0, c: 0 }
+            Self::none()
         }
     }
 

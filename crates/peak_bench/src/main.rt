@@ -1,14 +1,17 @@
-// Measures how long the search takes: on random full lists, and on lists of periods with many divisors
-// where most boxes meet.
+// Measures how long the search takes: on random full lists, and on lists of periods with many
+// divisors where most boxes meet.
 #![tactic(auto)]
 
 mod lists;
 mod timing;
 
-use lists::{composite_list, random_list};
+use lists::Random;
+use programs::status_of;
+use std::env::{self, Env};
+use std::io;
 use std::process::ExitCode;
-use std::{env, io};
-use timing::{Timing, timed};
+use std::time::Clock;
+use timing::Timing;
 
 const RANDOM_LISTS: u32 = 1_000;
 
@@ -16,42 +19,40 @@ const COMPOSITE_LISTS: u32 = 100;
 
 const SEED: u64 = 0x9e37_79b9_7f4a_7c15;
 
-// The peaks are always told; how long they took only where it is asked for, since no two runs agree on it.
-fn report(rt: &HostRuntime, what: &str, timing: Timing, times: bool) -> io::Result<()> {
-    let lists = timing.lists;
-    let peaks = timing.peaks;
-    println!(rt; "{what}: {lists} lists, peaks {peaks} in all")?;
+// The peaks are always told; how long they took only where it is asked for, since no two runs
+// agree on it.
+fn report(rt: &impl Print, what: &str, timing: Timing, times: bool) -> io::Result<()> {
+    println!(rt;
+        "{what}: {} lists, peaks {} in all",
+        timing.lists, timing.peaks
+    )?;
     if times {
-        let mean = timing.mean();
-        let worst = timing.worst;
-        println!(rt; "{what}: {mean} ns on average, {worst} ns at worst")?;
+        println!(rt;
+            "{what}: {} ns on average, {} ns at worst",
+            timing.mean(),
+            timing.worst
+        )?;
     }
     Ok(())
 }
 
-fn run(rt: &HostRuntime) -> anyhow::Result<()> {
+fn run(rt: &(impl Env + Alloc + Clock + Print)) -> anyhow::Result<()> {
     let times = env::args(rt)?.count() > 1;
-    let mut state = SEED;
-    let mut random = Timing::new();
+    let mut random = Random::new(SEED);
+    let mut timing = Timing::default();
     for _ in 0..RANDOM_LISTS {
-        random = timed(rt, random, &random_list(&mut state))?;
+        timing.measure(rt, &random.random_list())?;
     }
-    report(rt, "random", random, times)?;
-    let mut composite = Timing::new();
+    report(rt, "random", timing, times)?;
+    let mut timing = Timing::default();
     for _ in 0..COMPOSITE_LISTS {
-        composite = timed(rt, composite, &composite_list(&mut state))?;
+        timing.measure(rt, &random.composite_list())?;
     }
-    report(rt, "composite", composite, times)?;
+    report(rt, "composite", timing, times)?;
     Ok(())
 }
 
 fn main(rt: HostRuntime) -> ExitCode {
-    match run(&rt) {
-        Ok(()) => ExitCode::SUCCESS,
-        Err(e) => {
-            // Where this line can't be written either, the status still tells.
-            let _ = eprintln!(rt; "peak_bench: {e}");
-            ExitCode::FAILURE
-        },
-    }
+    let done = run(&rt);
+    status_of(&rt, "peak_bench", done)
 }

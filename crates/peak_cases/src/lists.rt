@@ -1,6 +1,6 @@
 // Lists of boxes, and what each finder is held to.
 use congruence::{Clock, Refusal};
-use draws::{Draw, DrawList, load_of};
+use draws::{Draw, DrawList};
 use finder::{Finder, FullFinder};
 use load::{Load, Rating};
 use peaks::PeakFinder;
@@ -35,55 +35,49 @@ fn list_of(rt: &impl Abort, boxes: &[Case]) -> DrawList {
 }
 
 // The peak is the one known, and the group measures it.
-fn check_found<L: Load>(rt: &impl Abort, boxes: &[Case], found: (u32, u32), peak: u32) {
-    let list = list_of(rt, boxes);
-    assert_eq!(rt; found.0, peak, "of {boxes:?}");
-    assert_eq!(rt;
-        load_of::<L>(&list, found.1).measure(),
-        peak,
-        "of {boxes:?}"
-    );
+fn check_found<L: Load>(rt: &impl Abort, row: &Row, found: (u32, u32)) {
+    let (boxes, known) = row;
+    let (peak, group) = found;
+    assert_eq!(rt; peak, *known, "of {boxes:?}");
+    let load: L = list_of(rt, boxes).load_of(group);
+    assert_eq!(rt; load.measure(), *known, "of {boxes:?}");
 }
 
-fn check_finder<L: Load, F: Finder<L>>(rt: &impl Abort, finder: &mut F, boxes: &[Case], peak: u32) {
+fn check_finder<L: Load, F: Finder<L>>(rt: &impl Abort, finder: &mut F, row: &Row) {
+    let boxes = row.0;
     match finder.find(&list_of(rt, boxes)) {
-        Ok(found) => check_found::<L>(rt, boxes, found, peak),
+        Ok(found) => check_found::<L>(rt, row, found),
         Err(refusal) => assert_eq!(rt; Err(refusal), Ok(()), "of {boxes:?}"),
     }
 }
 
+fn check_full<L: Load, F: FullFinder<L>>(rt: &impl Abort, finder: &mut F, row: &Row) {
+    let found = finder.find_any(&list_of(rt, row.0));
+    check_found::<L>(rt, row, found);
+}
+
 // The finders that have every list of the tables within reach.
-fn check_list<L: Load>(rt: &impl Abort, boxes: &[Case], peak: u32) {
-    check_finder::<L, Reduce<Walk>>(rt, &mut Reduce { below: Walk }, boxes, peak);
-    let list = list_of(rt, boxes);
-    check_found::<L>(
-        rt,
-        boxes,
-        FullFinder::<L>::find_any(&mut Search, &list),
-        peak,
-    );
-    check_found::<L>(
-        rt,
-        boxes,
-        FullFinder::<L>::find_any(&mut PeakFinder::new(), &list),
-        peak,
-    );
+fn check_list<L: Load>(rt: &impl Abort, row: &Row) {
+    check_finder::<L, Reduce<Walk>>(rt, &mut Reduce { below: Walk }, row);
+    check_full::<L, Search>(rt, &mut Search, row);
+    check_full::<L, PeakFinder>(rt, &mut PeakFinder::new(), row);
 }
 
 // Lists of a short cycle.
 pub(crate) fn check_rows<L: Load>(rt: &impl Abort, rows: &[Row]) {
-    for (boxes, peak) in rows {
-        check_list::<L>(rt, boxes, *peak);
-        check_finder::<L, Walk>(rt, &mut Walk, boxes, *peak);
+    for row in rows {
+        check_list::<L>(rt, row);
+        check_finder::<L, Walk>(rt, &mut Walk, row);
     }
 }
 
 // A list whose cycle is too long to go through until its periods are reduced.
-pub(crate) fn check_long<L: Load>(rt: &impl Abort, boxes: &[Case], peak: u32) {
+pub(crate) fn check_long<L: Load>(rt: &impl Abort, row: &Row) {
+    let boxes = row.0;
     assert_eq!(rt;
         Finder::<L>::find(&mut Walk, &list_of(rt, boxes)),
         Err(Refusal::BeyondReach),
         "of {boxes:?}"
     );
-    check_list::<L>(rt, boxes, peak);
+    check_list::<L>(rt, row);
 }

@@ -35,7 +35,5 @@ impl<L: Load> Finder<L> for PeakFinder {
 }
 
 impl<L: Load> FullFinder<L> for PeakFinder {
-    fn find_any(&mut self, list: &DrawList) -> (u32, u32) {
-        FullFinder::<L>::find_any(&mut self.chosen, list)
-    }
+    ghost full = { λ _ _. tt };
 }

@@ -1,77 +1,78 @@
--- The factors of a table, socket by socket.
-use Rattle.std.proofs.Common.{◌≡◌, ℕ, ◌+◌, ◌<◌, ◌≤◌, List, length, get_or, set, replicate, Some, sym, refl, ap, ◌∙◌, subst, ⊎_elim, arith}
-use Rattle.std.proofs.lemmas.List.{get_or-replicate, get_or-set_other, get_or-set_same, length-set}
-use Rattle.std.proofs.lemmas.Bool.{cases_eq}
+-- The booked boxes of a table with their factors, socket by socket.
+use Rattle.std.proofs.Common.{◌≡◌, ℕ, zero, suc, ◌+◌, ◌<◌, ◌≤◌, List, length, get_or, set, replicate, Some, None, Option, sym, refl, ap, ◌∙◌, subst, arith}
+use borrow.Author.Count.{below_more}
+use Rattle.std.proofs.lemmas.List.{get_or-map, get_or-set_other, get_or-set_same, length-map, length-set}
 use Rattle.draws.specs.Draws.{Places, periods_of}
 use Rattle.draws.specs.Factors.{Factor}
-use Rattle.draws.proofs.Factoring.{factor_some}
 use Rattle.table.specs.declared.slot.Booking.{Booking}
 use Rattle.table.specs.declared.slot.Slot.{Slot}
 use Rattle.table.specs.declared.slot.Slot.TheVariants.{Empty, Booked, Running}
-use Rattle.table.specs.declared.table.Table.{Table}
 use Rattle.table.specs.Slots.{started}
 use Rattle.table.specs.Tables.{places}
-use Rattle.table.proofs.Started.{bookable}
+use Rattle.planner.specs.declared.berth.Berth.{Berth}
+use Rattle.planner.specs.Berths.{BerthAt, Berths, IsBerth, factor_of, factors_of}
 use Rattle.planner.specs.Choices.{BookedAt}
-use Rattle.planner.specs.Settings.{FactorAt, Factors}
-use Rattle.planner.proofs.Placing.{places_set, places_skip}
+use Rattle.planner.specs.Settings.{FactorAt, Factors, beside}
+use Rattle.planner.proofs.Placing.{booked_within, places_set, places_skip}
 
--- the factors of the first n sockets, 1 behind them, and the boxes that count there
-pub record FactorsTo (slots : List Slot) (n : ℕ) (hs : List ℕ) (ps : Places) : Type 0 where
-  pub long : length hs ≡ length slots
-  pub at : (s : ℕ) → s < n → FactorAt slots s (get_or slots s Empty) (get_or hs s 0)
-  pub ahead : (s : ℕ) → n ≤ s → s < length slots → get_or hs s 0 ≡ 1
+-- no place of an empty list holds anything
+pub none_at : {X : Type 0} (n s : ℕ) → get_or {A = Option X} (replicate n None) s None ≡ None
+none_at zero s = refl
+none_at (suc n) zero = refl
+none_at (suc n) (suc s) = none_at n s
+
+-- the booked boxes of the first n sockets, none behind them, and the boxes that count there
+pub record BerthsTo (slots : List Slot) (n : ℕ) (xs : List (Option Berth)) (ps : Places) : Type 0 where
+  pub long : length xs ≡ length slots
+  pub at : (s : ℕ) → s < n → BerthAt slots s (get_or xs s None)
+  pub ahead : (s : ℕ) → n ≤ s → get_or xs s None ≡ None
   pub list : ps ≡ places slots n (λ j. 0)
 
-pub factors_none : (slots : List Slot) (ps : Places) → length slots ≡ 24 → ps ≡ places slots 0 (λ j. 0) → FactorsTo slots 0 (replicate 24 1) ps
-factors_none slots ps long e = record {
-  long = sym long;
-  at = λ s low. absurd (omega arith);
-  ahead = λ s past low. get_or-replicate 24 s 1 0 (omega arith);
-  list = e;
-}
+module _ (slots : List Slot) (n : ℕ) (xs : List (Option Berth)) (ps : Places) (f : BerthsTo slots n xs ps) where
+  pub berths_skip : ((b : Booking) → BookedAt slots n b → ⊥) → BerthsTo slots (n + 1) xs ps
+  berths_skip none = record {
+    long = f.long;
+    at = below_more (λ s. BerthAt slots s (get_or xs s None)) n f.at (subst (BerthAt slots n) (sym (f.ahead n (omega arith))) none);
+    ahead = λ s past. f.ahead s (omega arith);
+    list = f.list ∙ sym (places_skip slots n (λ j. 0) none);
+  }
 
-one_at : (slots : List Slot) (n : ℕ) (x : Slot) → ((b : Booking) → x ≡ Booked b → ⊥) → FactorAt slots n x 1
-one_at slots n Empty none = refl
-one_at slots n (Booked b) none = absurd (none b refl)
-one_at slots n (Running d) none = refl
+  pub berths_more : (x : Berth) (qs : Places) → x.socket ≡ n → BookedAt slots n x.booking → Factor (periods_of ps) x.booking.period x.factor → qs ≡ set ps n (Some (started x.booking 0)) → BerthsTo slots (n + 1) (set xs n (Some x)) qs
+  berths_more x qs here booked factor is =
+      let within : n < length xs = omega (arith, f.long, booked_within slots n x.booking booked) in
+      let box : IsBerth slots n x = record { socket = here; booked = booked; factor = subst (λ l. Factor (periods_of l) x.booking.period x.factor) f.list factor } in
+      record {
+        long = length-set xs n (Some x) ∙ f.long;
+        at = below_more (λ s. BerthAt slots s (get_or (set xs n (Some x)) s None)) n
+            (λ s low. subst (BerthAt slots s) (sym (get_or-set_other xs n s (Some x) None (λ same. omega arith))) (f.at s low))
+            (subst (BerthAt slots n) (sym (get_or-set_same xs n (Some x) None within)) box);
+        ahead = λ s past. get_or-set_other xs n s (Some x) None (λ same. omega arith) ∙ f.ahead s (omega arith);
+        list = is ∙ ap (λ l. set l n (Some (started x.booking 0))) f.list ∙ places_set slots n x.booking (λ j. 0) (λ j. 0) 0 booked (λ j c low e. refl) refl;
+      }
 
-lower : (s n : ℕ) → s < n + 1 → (s ≡ n → ⊥) → s < n
-lower s n low other = omega arith
+module _ (slots : List Slot) (xs : List (Option Berth)) (f : Berths slots xs) where
+  pub factors : Factors slots (factors_of xs)
+  factors = record {
+    long = length-map xs factor_of ∙ f.long;
+    at = λ s low. subst (FactorAt slots s (get_or slots s Empty)) (sym (get_or-map factor_of xs s None 0 (omega (arith, f.long)))) (go s (get_or slots s Empty) refl (get_or xs s None) (f.at s));
+  }
+    where
+      go : (s : ℕ) (y : Slot) → get_or slots s Empty ≡ y → (p : Option Berth) → BerthAt slots s p → FactorAt slots s y (factor_of p)
+      go s Empty e None h = refl
+      go s Empty e (Some x) h = absurd (let z = sym e ∙ h.booked in cc)
+      go s (Booked b) e None h = absurd (h b e)
+      go s (Booked b) e (Some x) h = let same : x.booking ≡ b = let z = sym h.booked ∙ e in cc in subst (λ c. Factor (beside slots s) c.period x.factor) same h.factor
+      go s (Running d) e None h = refl
+      go s (Running d) e (Some x) h = absurd (let z = sym e ∙ h.booked in cc)
 
-pub factors_skip : (slots : List Slot) (n : ℕ) (hs : List ℕ) (ps : Places) → n < length slots → ((b : Booking) → BookedAt slots n b → ⊥) → FactorsTo slots n hs ps → FactorsTo slots (n + 1) hs ps
-factors_skip slots n hs ps within none f = record {
-  long = f.long;
-  at = λ s low.
-      ⊎_elim
-      (λ same. subst (λ i. FactorAt slots i (get_or slots i Empty) (get_or hs i 0)) (sym same) (subst (FactorAt slots n (get_or slots n Empty)) (sym (f.ahead n (omega arith) within)) (one_at slots n (get_or slots n Empty) none)))
-      (λ other. f.at s (lower s n low other))
-      (cases_eq s n);
-  ahead = λ s past low. f.ahead s (omega arith) low;
-  list = f.list ∙ sym (places_skip slots n (λ j. 0) none);
-}
+  -- what stands at a place
+  module _ (s : ℕ) (low : s < length slots) where
+    pub none_booked : get_or xs s None ≡ None → (b : Booking) → BookedAt slots s b → ⊥
+    none_booked e = subst (BerthAt slots s) e (f.at s)
 
-pub factors_more : (slots : List Slot) (n : ℕ) (hs : List ℕ) (ps qs : Places) (b : Booking) (h : ℕ) → n < length slots → BookedAt slots n b → Factor (periods_of ps) b.period h → qs ≡ set ps n (Some (started b 0)) → FactorsTo slots n hs ps → FactorsTo slots (n + 1) (set hs n h) qs
-factors_more slots n hs ps qs b h within booked factor is f = record {
-  long = length-set hs n h ∙ f.long;
-  at = λ s low.
-      ⊎_elim
-      (λ same. subst (λ i. FactorAt slots i (get_or slots i Empty) (get_or (set hs n h) i 0)) (sym same)
-      (subst (FactorAt slots n (get_or slots n Empty)) (sym (get_or-set_same hs n h 0 (omega (arith, f.long)))) (subst (λ x. FactorAt slots n x h) (sym booked) (subst (λ l. Factor (periods_of l) b.period h) f.list factor))))
-      (λ other. subst (FactorAt slots s (get_or slots s Empty)) (sym (get_or-set_other hs n s h 0 other)) (f.at s (lower s n low other)))
-      (cases_eq s n);
-  ahead = λ s past low. get_or-set_other hs n s h 0 (λ same. omega arith) ∙ f.ahead s (omega arith) low;
-  list = is ∙ ap (λ l. set l n (Some (started b 0))) f.list ∙ places_set slots n b (λ j. 0) (λ j. 0) 0 booked (λ j c low e. refl) refl;
-}
+    module _ (x : Berth) (e : get_or xs s None ≡ Some x) where
+      pub is_berth : IsBerth slots s x
+      is_berth = subst (BerthAt slots s) e (f.at s)
 
-pub factors_all : (slots : List Slot) (n : ℕ) (hs : List ℕ) (ps : Places) → length slots ≤ n → FactorsTo slots n hs ps → Factors slots hs
-factors_all slots n hs ps all f = record { long = f.long; at = λ s low. f.at s (omega arith) }
-
--- no factor is 0
-pub factors_some : (table : Table) (hs : List ℕ) → Factors table.slots hs → (s : ℕ) → s < 24 → 0 < get_or hs s 0
-factors_some table hs f s low = go (get_or table.slots s Empty) refl (f.at s (omega (arith, table.whole)))
-  where
-    go : (x : Slot) → get_or table.slots s Empty ≡ x → FactorAt table.slots s (get_or table.slots s Empty) (get_or hs s 0) → 0 < get_or hs s 0
-    go Empty e h = let one : get_or hs s 0 ≡ 1 = subst (λ x. FactorAt table.slots s x (get_or hs s 0)) e h in omega arith
-    go (Booked b) e h = factor_some (bookable table s b e).some (subst (λ x. FactorAt table.slots s x (get_or hs s 0)) e h)
-    go (Running d) e h = let one : get_or hs s 0 ≡ 1 = subst (λ x. FactorAt table.slots s x (get_or hs s 0)) e h in omega arith
+      pub its_factor : get_or (factors_of xs) s 0 ≡ x.factor
+      its_factor = get_or-map factor_of xs s None 0 (omega (arith, f.long)) ∙ ap factor_of e

@@ -1,7 +1,8 @@
 -- The best wait of one box, and the boxes fitted so far.
-use Rattle.std.proofs.Common.{◌≡◌, ℕ, suc, ◌+◌, ◌%◌, ◌<◌, ◌≤◌, cond, eqb, List, length, get_or, set, replicate, Some, None, Option, sym, refl, ap, ◌∙◌, subst, ⊎_elim, mod-lt, arith}
+use Rattle.std.proofs.Common.{◌≡◌, ℕ, suc, ◌+◌, ◌%◌, ◌<◌, ◌≤◌, max, cond, eqb, List, length, get_or, set, Some, None, Option, sym, refl, ap, ◌∙◌, subst, ⊎_elim, mod-lt, arith}
 use Prim.Native.Nat.{◌∣◌}
-use Rattle.std.proofs.lemmas.List.{ext_get_or, get_or_past, get_or-replicate, get_or-set_other, get_or-set_same, length-set}
+use borrow.Author.Count.{below_more}
+use Rattle.std.proofs.lemmas.List.{ext_get_or, get_or-set_other, get_or-set_same, length-set}
 use Rattle.std.proofs.lemmas.Bool.{cases_eq, cases_lt, cond-false, cond-true, eq-eqb, ne_eqb}
 use Rattle.congruence.specs.Clocks.{Valid}
 use Rattle.load.specs.Kinds.{Kind, Laws}
@@ -12,19 +13,24 @@ use Rattle.draws.proofs.Cliques.{AllValid, none_some, some_same}
 use Rattle.draws.proofs.Factoring.{factor_some}
 use Rattle.draws.proofs.Peaks.{reaches_alone, reaches_more, reaches_peak}
 use Rattle.draws.proofs.Periods.{periods_at}
+use Rattle.draws.proofs.Sounds.{all_valid}
 use Rattle.table.specs.declared.slot.Booking.{Booking}
 use Rattle.table.specs.declared.slot.Slot.{Slot}
-use Rattle.table.specs.declared.slot.Slot.TheVariants.{Empty}
 use Rattle.table.specs.declared.table.Table.{Table}
 use Rattle.table.specs.Slots.{Bookable, started}
 use Rattle.table.specs.Tables.{places}
 use Rattle.table.proofs.Started.{started_valid}
+use Rattle.planner.specs.declared.berth.Berth.{Berth}
+use Rattle.planner.specs.declared.prefix.Prefix.{Prefix}
+use Rattle.planner.specs.Berths.{IsBerth}
 use Rattle.planner.specs.Choices.{BookedAt, Fitted, FittedAt, fitting}
-use Rattle.planner.specs.Plans.{Plain, waits_of}
-use Rattle.planner.specs.Searches.{BestWait}
+use Rattle.planner.specs.Plans.{waits_of}
+use Rattle.planner.specs.Searches.{Begun, BestWait, Boxed, Fits, Joins}
+use Rattle.planner.specs.Settings.{Factors}
 use Rattle.planner.proofs.Moves.{unmoved}
-use Rattle.planner.proofs.Outcomes.{reaches_less}
-use Rattle.planner.proofs.Placing.{Agree, booked_within, places_agree, places_set, places_skip}
+use Rattle.planner.proofs.Outcomes.{below_period, reaches_less, reaches_max}
+use Rattle.planner.proofs.Placing.{Agree, booked_within, periods_places, place_waiting, places_agree, places_set}
+use Rattle.planner.proofs.Prefixes.{begun_next, begun_skip, next_here, next_there}
 use Rattle.planner.proofs.Slides.{get_or_slid, length_slid, moved_place, reaches_moved, slid, slide_to}
 
 -- beside the boxes of a list
@@ -40,16 +46,16 @@ module _ {L : Type 0} (K : Kind L) (laws : Laws K) (ps : Places) (s : ℕ) (b : 
       (λ other. valid j d (sym (get_or-set_other ps s j (Some (started b x)) None other) ∙ e))
       (cases_eq j s)
 
-  -- every wait reaches the peak of the list and what the box measures alone
-  module _ (empty : get_or ps s None ≡ None) (peak : ℕ) (is_peak : Peak K ps peak) (x : ℕ) (low : x < b.period) where
-    pub with_reaches_list : Reaches K (set ps s (Some (started b x))) peak
-    with_reaches_list =
-        reaches_more K laws ps (set ps s (Some (started b x))) peak
-        (λ j d e. ⊎_elim (λ here. absurd (none_some (sym empty ∙ ap (λ i. get_or ps i None) (sym here) ∙ e))) (λ other. get_or-set_other ps s j (Some (started b x)) None other ∙ e) (cases_eq j s))
-        (sym (length-set ps s (Some (started b x)))) (omega (arith, length-set ps s (Some (started b x)))) (reaches_peak K peak (omega arith) is_peak)
+  -- every wait reaches what the box measures alone
+  pub with_reaches_alone : (x : ℕ) → x < b.period → Reaches K (set ps s (Some (started b x))) (K.measure (K.load b.rating))
+  with_reaches_alone x low = reaches_alone K laws (set ps s (Some (started b x))) s (started b x) (omega (arith, length-set ps s (Some (started b x)))) (get_or-set_same ps s (Some (started b x)) None within) (started_valid fits low)
 
-    pub with_reaches_alone : Reaches K (set ps s (Some (started b x))) (K.measure (K.load b.rating))
-    with_reaches_alone = reaches_alone K laws (set ps s (Some (started b x))) s (started b x) (omega (arith, length-set ps s (Some (started b x)))) (get_or-set_same ps s (Some (started b x)) None within) (started_valid fits low)
+  -- and the peak of the list, where the box is not started yet
+  pub with_reaches_list : get_or ps s None ≡ None → (peak : ℕ) → Peak K ps peak → (x : ℕ) → Reaches K (set ps s (Some (started b x))) peak
+  with_reaches_list empty peak is_peak x =
+      reaches_more K laws ps (set ps s (Some (started b x))) peak
+      (λ j d e. ⊎_elim (λ here. absurd (none_some (sym empty ∙ ap (λ i. get_or ps i None) (sym here) ∙ e))) (λ other. get_or-set_other ps s j (Some (started b x)) None other ∙ e) (cases_eq j s))
+      (sym (length-set ps s (Some (started b x)))) (omega (arith, length-set ps s (Some (started b x)))) (reaches_peak K peak (omega arith) is_peak)
 
   -- a wait and its remainder by the factor
   pub with_reduced : (h x : ℕ) → Factor (periods_of ps) b.period h → x < b.period → (n : ℕ) → Reaches K (set ps s (Some (started b (x % h)))) n → Reaches K (set ps s (Some (started b x))) n
@@ -89,14 +95,6 @@ module _ {L : Type 0} (K : Kind L) (laws : Laws K) (ps : Places) (s : ℕ) (b : 
   pub best_stop : (k x peak : ℕ) → x < b.period → ((y : ℕ) → y < b.period → Reaches K (set ps s (Some (started b y))) peak) → BestWait K ps s b k x peak → BestWait K ps s b b.period x peak
   best_stop k x peak below all best = record { low = below; is_peak = best.is_peak; least = all; first = best.first }
 
-  pub best_first : (peak : ℕ) → Peak K (set ps s (Some (started b 0))) peak → BestWait K ps s b 1 0 peak
-  best_first peak p = record {
-    low = omega arith;
-    is_peak = p;
-    least = λ y low. let zero : 0 ≡ y = omega arith in subst (λ k. Reaches K (set ps s (Some (started b k))) peak) zero (reaches_peak K peak (omega arith) p);
-    first = λ y low. absurd (omega arith);
-  }
-
   -- one wait more
   module _ (k x peak : ℕ) (best : BestWait K ps s b k x peak) (next : ℕ) (p : Peak K (set ps s (Some (started b k))) next) where
     at_last : (y n : ℕ) → y < k + 1 → k ≤ y → n ≤ next → Reaches K (set ps s (Some (started b y))) n
@@ -118,6 +116,61 @@ module _ {L : Type 0} (K : Kind L) (laws : Laws K) (ps : Places) (s : ℕ) (b : 
       first = best.first;
     }
 
+-- the best wait so far of a box that joins a prefix
+module _ {L : Type 0} (K : Kind L) (laws : Laws K) (prefix : Prefix) (x : Berth) (joins : Joins K prefix x) where
+  few : length prefix.list.places ≤ 64
+  few = omega (arith, prefix.list.whole)
+
+  within : x.socket < length prefix.list.places
+  within = omega (arith, prefix.list.whole, x.within)
+
+  peak_at : (k : ℕ) (next : Prefix) → Boxed K prefix x.socket x.booking k next → Peak K (set prefix.list.places x.socket (Some (started x.booking k))) next.peak
+  peak_at k next boxed = subst (λ ps. Peak K ps next.peak) boxed.list boxed.is_peak
+
+  -- one wait more
+  module _ (k : ℕ) (best next : Prefix) (old : Fits K prefix x k best) (boxed : Boxed K prefix x.socket x.booking k next) where
+    pub fits_better : k < x.factor → next.peak < best.peak → Fits K prefix x (k + 1) next
+    fits_better low better = record {
+      wait = k;
+      low = low;
+      boxed = boxed;
+      best = best_better K laws prefix.list.places x.socket x.booking few (all_valid prefix.list) within x.bookable k old.wait best.peak old.best next.peak (peak_at k next boxed) better;
+    }
+
+    pub fits_kept : best.peak ≤ next.peak → Fits K prefix x (k + 1) best
+    fits_kept kept = record {
+      wait = old.wait;
+      low = old.low;
+      boxed = old.boxed;
+      best = best_kept K laws prefix.list.places x.socket x.booking few (all_valid prefix.list) within x.bookable k old.wait best.peak old.best next.peak (peak_at k next boxed) kept;
+    }
+
+  module _ (k : ℕ) (best : Prefix) (old : Fits K prefix x k best) where
+    below : old.wait < x.booking.period
+    below = omega (arith, old.low, x.within_period)
+
+    pub fits_all : x.factor ≤ k → Fits K prefix x x.booking.period best
+    fits_all all = record {
+      wait = old.wait;
+      low = old.low;
+      boxed = old.boxed;
+      best = best_all K laws prefix.list.places x.socket x.booking few (all_valid prefix.list) within x.bookable x.factor k old.wait best.peak joins.factor all below old.best;
+    }
+
+    -- nothing can be less than the peak of the prefix and what the box measures alone
+    pub fits_stop : (least : ℕ) → least ≡ max prefix.peak (K.measure (K.load x.booking.rating)) → best.peak ≤ least → Fits K prefix x x.booking.period best
+    fits_stop least is low = record {
+      wait = old.wait;
+      low = old.low;
+      boxed = old.boxed;
+      best = best_stop K laws prefix.list.places x.socket x.booking few (all_valid prefix.list) within x.bookable k old.wait best.peak below
+          (λ y less.
+          reaches_max K (set prefix.list.places x.socket (Some (started x.booking y))) prefix.peak (K.measure (K.load x.booking.rating)) least best.peak is low
+          (with_reaches_list K laws prefix.list.places x.socket x.booking few (all_valid prefix.list) within x.bookable joins.empty prefix.peak joins.is_peak y)
+          (with_reaches_alone K laws prefix.list.places x.socket x.booking few (all_valid prefix.list) within x.bookable y less))
+          old.best;
+    }
+
 -- two functions that agree up to s fit alike
 pub fitting_agree : (slots : List Slot) (v w : ℕ → ℕ) (s x : ℕ) → Agree slots s v w → fitting slots v s x ≡ fitting slots w s x
 fitting_agree slots v w s x agree =
@@ -125,18 +178,15 @@ fitting_agree slots v w s x agree =
     (λ j b low at.
     ⊎_elim
     (λ here. cond-true _ _ _ (eq-eqb j s here) ∙ sym (cond-true _ _ _ (eq-eqb j s here)))
-    (λ other. cond-false _ _ _ (ne_eqb j s other) ∙ agree j b (lower j low other) at ∙ sym (cond-false _ _ _ (ne_eqb j s other)))
+    (λ other. cond-false _ _ _ (ne_eqb j s other) ∙ agree j b (omega arith) at ∙ sym (cond-false _ _ _ (ne_eqb j s other)))
     (cases_eq j s))
-  where
-    lower : (j : ℕ) → j < s + 1 → (j ≡ s → ⊥) → j < s
-    lower j low other = omega arith
 
 -- the list with a box more, as it is fitted
 pub fitting_set : (slots : List Slot) (w : ℕ → ℕ) (s : ℕ) (b : Booking) (x : ℕ) → BookedAt slots s b → set (places slots s w) s (Some (started b x)) ≡ fitting slots w s x
 fitting_set slots w s b x at =
     places_set slots s b w (λ j. cond (eqb j s) x (w j)) x at (λ j c low e. sym (cond-false _ _ _ (ne_eqb j s (λ here. omega arith)))) (cond-true _ _ _ (eq-eqb s s refl))
 
-module _ {L : Type 0} (K : Kind L) (table : Table) where
+module _ {L : Type 0} (K : Kind L) (table : Table) (hs : List ℕ) where
   fitted_agree : (v w : ℕ → ℕ) (s : ℕ) (b : Booking) → Agree table.slots s v w → v s ≡ w s → FittedAt K table.slots v s b → FittedAt K table.slots w s b
   fitted_agree v w s b agree here f = record {
     peak = f.peak;
@@ -146,97 +196,82 @@ module _ {L : Type 0} (K : Kind L) (table : Table) where
   }
 
   -- the boxes booked below n are fitted
-  pub record FittedTo (n : ℕ) (ws : List ℕ) (ps : Places) (peak : ℕ) : Type 0 where
-    pub list : ps ≡ places table.slots n (waits_of ws)
-    pub is_peak : Peak K ps peak
-    pub long : length ws ≡ 24
-    pub each : (s : ℕ) (b : Booking) → s < n → BookedAt table.slots s b → FittedAt K table.slots (waits_of ws) s b
-    pub low : (s : ℕ) (b : Booking) → s < n → BookedAt table.slots s b → waits_of ws s < b.period
-    pub plain : Plain table.slots ws
+  pub record FittedTo (n : ℕ) (prefix : Prefix) : Type 0 where
+    pub begun : Begun K table.slots hs n prefix
+    pub each : (s : ℕ) → s < n → (b : Booking) → BookedAt table.slots s b → FittedAt K table.slots (waits_of prefix.waits) s b
 
-  pub fitted_none : (ps : Places) (peak : ℕ) → ps ≡ places table.slots 0 (λ s. 0) → Peak K ps peak → FittedTo 0 (replicate 24 0) ps peak
-  fitted_none ps peak e p = record {
-    list = e ∙ places_agree table.slots 0 (λ s. 0) (waits_of (replicate 24 0)) (λ s b low at. absurd (omega arith));
-    is_peak = p;
-    long = refl;
-    each = λ s b low at. absurd (omega arith);
-    low = λ s b low at. absurd (omega arith);
-    plain = λ s none. ⊎_elim (λ low. get_or-replicate 24 s 0 0 low) (λ past. get_or_past (replicate 24 0) s 0 past) (cases_lt s 24);
-  }
+  pub fitted_none : (prefix : Prefix) → Begun K table.slots hs 0 prefix → FittedTo 0 prefix
+  fitted_none prefix begun = record { begun = begun; each = λ s low b at. absurd (omega arith) }
 
-  pub fitted_skip : (n : ℕ) (ws : List ℕ) (ps : Places) (peak : ℕ) → ((b : Booking) → BookedAt table.slots n b → ⊥) → FittedTo n ws ps peak → FittedTo (n + 1) ws ps peak
-  fitted_skip n ws ps peak none f = record {
-    list = f.list ∙ sym (places_skip table.slots n (waits_of ws) none);
-    is_peak = f.is_peak;
-    long = f.long;
-    each = λ s b low at. f.each s b (lower s low (not_here s b at)) at;
-    low = λ s b low at. f.low s b (lower s low (not_here s b at)) at;
-    plain = f.plain;
-  }
-    where
-      not_here : (s : ℕ) (b : Booking) → BookedAt table.slots s b → s ≡ n → ⊥
-      not_here s b at same = none b (ap (λ k. get_or table.slots k Empty) (sym same) ∙ at)
-
-      lower : (s : ℕ) → s < n + 1 → (s ≡ n → ⊥) → s < n
-      lower s low other = omega arith
-
-  -- one box more
-  module _ (n : ℕ) (ws : List ℕ) (ps qs : Places) (old : ℕ) (b : Booking) (x peak : ℕ) (at : BookedAt table.slots n b) (best : BestWait K ps n b b.period x peak) (is : qs ≡ set ps n (Some (started b x))) (f : FittedTo n ws ps old) where
-    abbrev w : ℕ → ℕ
-    w = waits_of ws
-
-    abbrev w' : ℕ → ℕ
-    w' = waits_of (set ws n x)
-
-    within : n < length ws
-    within = omega (arith, f.long, booked_within table.slots n b at, table.whole)
-
-    here : w' n ≡ x
-    here = get_or-set_same ws n x 0 within
-
-    there : (s : ℕ) → (s ≡ n → ⊥) → w' s ≡ w s
-    there s other = get_or-set_other ws n s x 0 other
-
-    lower : (s : ℕ) → s < n + 1 → (s ≡ n → ⊥) → s < n
-    lower s low other = omega arith
-
-    agree : Agree table.slots n w w'
-    agree s c low e = sym (there s (λ same. omega arith))
-
-    same_box : (s : ℕ) (c : Booking) → s ≡ n → BookedAt table.slots s c → c ≡ b
-    same_box s c same e = Rattle.table.proofs.Started.booked_same (sym e ∙ ap (λ k. get_or table.slots k Empty) same ∙ at)
-
-    list_is : (y : ℕ) → set ps n (Some (started b y)) ≡ fitting table.slots w' n y
-    list_is y = ap (λ l. set l n (Some (started b y))) f.list ∙ fitting_set table.slots w n b y at ∙ fitting_agree table.slots w w' n y agree
-
-    pub fitted_more : FittedTo (n + 1) (set ws n x) qs peak
-    fitted_more = record {
-      list = is ∙ ap (λ l. set l n (Some (started b x))) f.list ∙ places_set table.slots n b w w' x at agree here;
-      is_peak = subst (λ l. Peak K l peak) (sym is) best.is_peak;
-      long = length-set ws n x ∙ f.long;
-      each = λ s c low e.
-          ⊎_elim
-          (λ same. subst (λ i. FittedAt K table.slots w' i c) (sym same) (record {
-            peak = peak;
-            is_peak = subst (λ l. Peak K l peak) (list_is x ∙ ap (fitting table.slots w' n) (sym here)) best.is_peak;
-            least = λ y below. subst (λ l. Reaches K l peak) (list_is y) (best.least y (subst (λ k. y < k.period) (same_box s c same e) below));
-            first = λ y below. subst (λ l. Passes K l peak) (list_is y) (best.first y (omega (arith, here)));
-          }))
-          (λ other. fitted_agree w w' s c (λ j d less e'. agree j d (omega (arith, lower s low other)) e') (sym (there s other)) (f.each s c (lower s low other) e))
-          (cases_eq s n);
-      low = λ s c low e.
-          ⊎_elim
-          (λ same. subst (λ i. w' i < c.period) (sym same) (subst (λ k. k < c.period) (sym here) (subst (λ k. x < k.period) (sym (same_box s c same e)) best.low)))
-          (λ other. subst (λ k. k < c.period) (sym (there s other)) (f.low s c (lower s low other) e))
-          (cases_eq s n);
-      plain = λ s none. ⊎_elim (λ same. absurd (none b (ap (λ k. get_or table.slots k Empty) same ∙ at))) (λ other. there s other ∙ f.plain s none) (cases_eq s n);
+  module _ (n : ℕ) (prefix : Prefix) (f : FittedTo n prefix) where
+    pub fitted_skip : n < 24 → ((b : Booking) → BookedAt table.slots n b → ⊥) → FittedTo (n + 1) prefix
+    fitted_skip within none = record {
+      begun = begun_skip K table hs n prefix f.begun within none;
+      each = below_more (λ s. (b : Booking) → BookedAt table.slots s b → FittedAt K table.slots (waits_of prefix.waits) s b) n f.each (λ b at. absurd (none b at));
     }
 
-  pub fitted_all : (n : ℕ) (ws : List ℕ) (ps : Places) (peak : ℕ) → 24 ≤ n → n ≤ 24 → FittedTo n ws ps peak → Fitted K table.slots (waits_of ws) peak
-  fitted_all n ws ps peak all most f = record {
-    choice = λ s b at. f.low s b (inside s b at) at;
-    each = λ s b at. f.each s b (inside s b at) at;
-    is_peak = subst (λ l. Peak K l peak) (f.list ∙ ap (λ k. places table.slots k (waits_of ws)) (omega (arith, table.whole))) f.is_peak;
+    module _ (x : Berth) (is : IsBerth table.slots n x) where
+      -- the box can join
+      pub fitted_joins : Joins K prefix x
+      fitted_joins = record {
+        empty = ap (λ ps. get_or ps x.socket None) f.begun.list ∙ place_waiting table.slots n (waits_of prefix.waits) x.socket x.booking (omega (arith, is.socket)) (subst (λ s. BookedAt table.slots s x.booking) (sym is.socket) is.booked);
+        is_peak = f.begun.is_peak;
+        factor = subst (λ qs. Factor qs x.booking.period x.factor) (periods_places table.slots n (λ j. 0) (waits_of prefix.waits) ∙ ap periods_of (sym f.begun.list)) is.factor;
+      }
+
+      module _ (factor : get_or hs n 0 ≡ x.factor) (next : Prefix) (fits : Fits K prefix x x.booking.period next) where
+        w : ℕ → ℕ
+        w = waits_of prefix.waits
+
+        w' : ℕ → ℕ
+        w' = waits_of next.waits
+
+        boxed : Boxed K prefix n x.booking fits.wait next
+        boxed = subst (λ s. Boxed K prefix s x.booking fits.wait next) is.socket fits.boxed
+
+        best : BestWait K prefix.list.places n x.booking x.booking.period fits.wait next.peak
+        best = subst (λ s. BestWait K prefix.list.places s x.booking x.booking.period fits.wait next.peak) is.socket fits.best
+
+        low : fits.wait < get_or hs n 0
+        low = omega (arith, fits.low, factor)
+
+        here : w' n ≡ fits.wait
+        unfolding w'
+        here = next_here K table hs n prefix f.begun x.booking is.booked fits.wait low next boxed
+
+        there : (s : ℕ) → (s ≡ n → ⊥) → w s ≡ w' s
+        unfolding w w'
+        there s other = sym (next_there K table hs n prefix f.begun x.booking is.booked fits.wait low next boxed s other)
+
+        agree : Agree table.slots n w w'
+        agree s c less e = there s (λ same. omega arith)
+
+        same_box : (c : Booking) → BookedAt table.slots n c → c ≡ x.booking
+        same_box c e = let z = sym e ∙ is.booked in cc
+
+        list_is : (y : ℕ) → set prefix.list.places n (Some (started x.booking y)) ≡ fitting table.slots w' n y
+        unfolding w w'
+        list_is y = ap (λ l. set l n (Some (started x.booking y))) f.begun.list ∙ fitting_set table.slots w n x.booking y is.booked ∙ fitting_agree table.slots w w' n y agree
+
+        pub fitted_more : FittedTo (n + 1) next
+        unfolding w w'
+        fitted_more = record {
+          begun = begun_next K table hs n prefix f.begun x.booking is.booked fits.wait low next boxed;
+          each = below_more (λ s. (c : Booking) → BookedAt table.slots s c → FittedAt K table.slots w' s c) n
+              (λ s less c e. fitted_agree w w' s c (λ j d before e'. agree j d (omega arith) e') (there s (λ same. omega arith)) (f.each s less c e))
+              (λ c e. record {
+                peak = next.peak;
+                is_peak = subst (λ l. Peak K l next.peak) (list_is fits.wait ∙ ap (fitting table.slots w' n) (sym here)) best.is_peak;
+                least = λ y low. subst (λ l. Reaches K l next.peak) (list_is y) (best.least y (omega (arith, low, ap (λ (b : Booking). b.period) (same_box c e))));
+                first = λ y low. subst (λ l. Passes K l next.peak) (list_is y) (best.first y (omega (arith, here)));
+              });
+        }
+
+  pub fitted_all : (laws : Laws K) (factors : Factors table.slots hs) (n : ℕ) (prefix : Prefix) → 24 ≤ n → FittedTo n prefix → Fitted K table.slots (waits_of prefix.waits) prefix.peak
+  fitted_all laws factors n prefix all f = record {
+    choice = λ s b at. below_period K laws table hs factors s b (waits_of prefix.waits s) at (f.begun.low s (inside s b at) b at);
+    each = λ s b at. f.each s (inside s b at) b at;
+    is_peak = subst (λ l. Peak K l prefix.peak) (f.begun.list ∙ ap (λ k. places table.slots k (waits_of prefix.waits)) (omega (arith, f.begun.within, table.whole))) f.begun.is_peak;
   }
     where
       inside : (s : ℕ) (b : Booking) → BookedAt table.slots s b → s < n

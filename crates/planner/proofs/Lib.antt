@@ -1,9 +1,10 @@
-pub mod Slides
-pub mod Moves
 pub mod Placing
 pub mod Orders
+pub mod Slides
+pub mod Moves
 pub mod Lowering
-pub mod Outcomes
-pub mod Fits
 pub mod Products
 pub mod Factored
+pub mod Prefixes
+pub mod Outcomes
+pub mod Fits

@@ -16,7 +16,7 @@ use Rattle.table.specs.declared.slot.Slot.TheVariants.{Empty, Booked, Running}
 use Rattle.table.specs.declared.table.Table.{Table}
 use Rattle.table.specs.Slots.{started}
 use Rattle.table.specs.Tables.{places}
-use Rattle.table.proofs.Started.{bookable, empty_booked, get_or_places, running_valid}
+use Rattle.table.proofs.Started.{bookable, get_or_places, running_valid}
 use Rattle.planner.specs.Choices.{BookedAt, Choice, Earlier, chosen}
 use Rattle.planner.specs.Settings.{FactorAt, Factors, beside}
 use Rattle.planner.proofs.Moves.{moved_booked, moved_waits, places_moved}
@@ -114,8 +114,8 @@ module _ {L : Type 0} (K : Kind L) (laws : Laws K) (table : Table) (hs : List �
   }
 
   step : (n : ℕ) (v r : ℕ → ℕ) → n < 24 → (x : Slot) → get_or table.slots n Empty ≡ x → Lowered n v r → (r' : ℕ → ℕ) × Lowered (suc n) v r'
-  step n v r within Empty e old = (r, lowered_same n v r (λ b at. absurd (empty_booked (sym e ∙ at))) old)
-  step n v r within (Running d) e old = (r, lowered_same n v r (λ b at. absurd (let z : ◌≡◌ {A = Slot} (Running d) (Booked b) = sym e ∙ at in let k : ◌≡◌ {A = ℕ} 0 1 = cc in omega arith)) old)
+  step n v r within Empty e old = (r, lowered_same n v r (λ b at. absurd (let z = sym e ∙ at in cc)) old)
+  step n v r within (Running d) e old = (r, lowered_same n v r (λ b at. absurd (let z = sym e ∙ at in cc)) old)
   step n v r within (Booked b) e old =
       ⊎_elim
       (λ fine. (r, lowered_same n v r (λ c at. fine) old))

@@ -1,8 +1,9 @@
 -- The places of a table with some of its booked boxes started.
-use Rattle.std.proofs.Common.{◌≡◌, ℕ, ◌+◌, ◌<◌, ◌≤◌, List, length, get_or, set, Some, None, sym, refl, ap, ◌∙◌, subst, ⊎_elim, arith}
+use Rattle.std.proofs.Common.{◌≡◌, ℕ, suc, ◌+◌, ◌<◌, ◌≤◌, true, false, if◌then◌else◌, nat_lt, List, [], ◌∷◌, length, get_or, set, Some, None, sym, refl, ap, ◌∙◌, subst, ⊎_elim, arith}
 use Rattle.std.proofs.lemmas.List.{ext_get_or, get_or_past, get_or-set_other, get_or-set_same, length-set}
 use Rattle.std.proofs.lemmas.Bool.{cases_eq, cases_lt, cond-false, cond-true, le-ltb, lt-ltb}
 use Rattle.congruence.specs.Clocks.{Valid}
+use Rattle.draws.specs.Draws.{periods_of}
 use Rattle.draws.proofs.Cliques.{AllValid, none_some, some_same}
 use Rattle.draws.proofs.Peaks.{Among}
 use Rattle.table.specs.declared.slot.Booking.{Booking}
@@ -10,8 +11,8 @@ use Rattle.table.specs.declared.slot.Slot.{Slot}
 use Rattle.table.specs.declared.slot.Slot.TheVariants.{Empty, Booked, Running}
 use Rattle.table.specs.declared.table.Table.{Table}
 use Rattle.table.specs.Slots.{started}
-use Rattle.table.specs.Tables.{place_of, places}
-use Rattle.table.proofs.Started.{bookable, empty_booked, get_or_places, length_places, running_valid, started_valid}
+use Rattle.table.specs.Tables.{place_of, places, places_from}
+use Rattle.table.proofs.Started.{bookable, get_or_places, length_places, running_valid, started_valid}
 use Rattle.planner.specs.Choices.{BookedAt}
 
 -- the same waits for the booked boxes below n
@@ -20,7 +21,7 @@ Agree slots n v w = (s : ℕ) (b : Booking) → s < n → BookedAt slots s b →
 
 -- a socket with a booked box is one of the table's
 pub booked_within : (slots : List Slot) (s : ℕ) (b : Booking) → BookedAt slots s b → s < length slots
-booked_within slots s b e = ⊎_elim (λ low. low) (λ past. absurd (empty_booked (sym (get_or_past slots s Empty past) ∙ e))) (cases_lt s (length slots))
+booked_within slots s b e = ⊎_elim (λ low. low) (λ past. absurd (let z = sym (get_or_past slots s Empty past) ∙ e in cc)) (cases_lt s (length slots))
 
 started_at : (n : ℕ) (w : ℕ → ℕ) (s : ℕ) (b : Booking) → s < n → place_of n w s (Booked b) ≡ Some (started b (w s))
 started_at n w s b low = cond-true _ _ _ (lt-ltb s n low)
@@ -33,9 +34,6 @@ place_started slots n w s b low e = get_or_places n w slots s ∙ ap (place_of n
 
 pub place_waiting : (slots : List Slot) (n : ℕ) (w : ℕ → ℕ) (s : ℕ) (b : Booking) → n ≤ s → BookedAt slots s b → get_or (places slots n w) s None ≡ None
 place_waiting slots n w s b past e = get_or_places n w slots s ∙ ap (place_of n w s) e ∙ waiting_at n w s b past
-
-past_it : (s j : ℕ) → s ≤ j → (j ≡ s → ⊥) → s + 1 ≤ j
-past_it s j past other = omega arith
 
 module _ (slots : List Slot) where
   -- two lists of places that are the same socket by socket
@@ -69,7 +67,7 @@ module _ (slots : List Slot) where
           (λ past.
           ⊎_elim
           (λ here. absurd (none b (ap (λ i. get_or slots i Empty) (sym here) ∙ e)))
-          (λ other. waiting_at (s + 1) w j b (past_it s j past other) ∙ sym (waiting_at s w j b past))
+          (λ other. waiting_at (s + 1) w j b (omega arith) ∙ sym (waiting_at s w j b past))
           (cases_eq j s))
           (cases_lt j s)
 
@@ -91,7 +89,7 @@ module _ (slots : List Slot) where
       go j other (Booked c) e' =
           ⊎_elim
           (λ low. started_at s v j c low ∙ ap (λ k. Some (started c k)) (agree j c low e') ∙ sym (started_at (s + 1) w j c (omega arith)))
-          (λ past. waiting_at s v j c past ∙ sym (waiting_at (s + 1) w j c (past_it s j past other)))
+          (λ past. waiting_at s v j c past ∙ sym (waiting_at (s + 1) w j c (omega arith)))
           (cases_lt j s)
 
   -- started boxes stay when more have started
@@ -106,6 +104,21 @@ module _ (slots : List Slot) where
           (λ low. ap (place_of m w s) is ∙ started_at m w s b (omega arith) ∙ ap (λ k. Some (started b k)) (sym (agree s b low is)) ∙ sym (started_at n v s b low) ∙ sym (ap (place_of n v s) is) ∙ h)
           (λ past. absurd (none_some (sym (waiting_at n v s b past) ∙ sym (ap (place_of n v s) is) ∙ h)))
           (cases_lt s n)
+
+-- the waits change no period
+pub periods_places : (slots : List Slot) (n : ℕ) (v w : ℕ → ℕ) → periods_of (places slots n v) ≡ periods_of (places slots n w)
+unfolding places_from
+periods_places slots n v w = from 0 slots
+  where
+    from : (s : ℕ) (xs : List Slot) → periods_of (places_from n v s xs) ≡ periods_of (places_from n w s xs)
+    from s [] = refl
+    from s (Empty ∷ xs) = from (suc s) xs
+    from s (Running d ∷ xs) = ap (λ qs. d.clock.period ∷ qs) (from (suc s) xs)
+    from s (Booked b ∷ xs) =
+        elim (nat_lt s n) as (λ test. periods_of ((if test then Some (started b (v s)) else None) ∷ places_from n v (suc s) xs) ≡ periods_of ((if test then Some (started b (w s)) else None) ∷ places_from n w (suc s) xs)) [
+          | true ↦ ap (λ qs. b.period ∷ qs) (from (suc s) xs)
+          | false ↦ from (suc s) xs
+        ]
 
 -- every started box has a wait below its period, and so every clock is valid
 pub places_valid : (table : Table) (n : ℕ) (w : ℕ → ℕ) → ((s : ℕ) (b : Booking) → s < n → BookedAt table.slots s b → w s < b.period) → AllValid (places table.slots n w)

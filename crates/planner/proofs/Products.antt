@@ -1,27 +1,29 @@
--- The product of a list, factor by factor.
-use Rattle.std.proofs.Common.{◌≡◌, ℕ, ◌+◌, ◌*◌, ◌<◌, ◌≤◌, List, [], ◌∷◌, ◌++◌, length, get_or, take, drop, sym, ap, ◌∙◌, mul_assoc, mul-le-mul, mul-le-mul_left, mul-pos, one-mul, mul-one, arith, take-append-drop}
-use Rattle.std.specs.List.{AllByRecursion}
-use Rattle.std.proofs.ByRecursion.{All-drop}
-use Rattle.std.proofs.lemmas.List.{take_more}
+-- The product of the factors, socket by socket.
+use Rattle.std.proofs.Common.{◌≡◌, ℕ, zero, suc, ◌+◌, ◌*◌, ◌<◌, ◌≤◌, List, [], ◌∷◌, ◌++◌, length, get_or, take, Some, None, Option, sym, ap, ◌∙◌, mul_assoc, mul-le-mul_left, mul-pos, one-mul, mul-one, arith}
+use Rattle.std.proofs.lemmas.List.{map_more}
+use Rattle.planner.specs.declared.berth.Berth.{Berth}
+use Rattle.planner.specs.Berths.{factor_of, factors_of}
 use Rattle.planner.specs.Settings.{product}
 
 product_append : (xs ys : List ℕ) → product (xs ++ ys) ≡ product xs * product ys
 product_append [] ys = sym (one-mul (product ys))
 product_append (x ∷ xs) ys = ap (λ k. x * k) (product_append xs ys) ∙ sym (mul_assoc x (product xs) (product ys))
 
-pub product_more : (xs : List ℕ) (i d : ℕ) → i < length xs → product (take (i + 1) xs) ≡ product (take i xs) * get_or xs i d
-product_more xs i d within = ap product (take_more xs i d within) ∙ product_append (take i xs) (get_or xs i d ∷ []) ∙ ap (λ k. product (take i xs) * k) (mul-one (get_or xs i d))
+pub product_more : (xs : List (Option Berth)) (i : ℕ) → i < length xs → product (factors_of (take (i + 1) xs)) ≡ product (factors_of (take i xs)) * factor_of (get_or xs i None)
+product_more xs i within =
+    let last = factor_of (get_or xs i None) in
+    ap product (map_more factor_of xs i None within) ∙ product_append (factors_of (take i xs)) (last ∷ []) ∙ ap (λ k. product (factors_of (take i xs)) * k) (mul-one last)
 
-pub product_some : (xs : List ℕ) → AllByRecursion (λ x. 0 < x) xs → 0 < product xs
-product_some [] all = omega arith
-product_some (x ∷ xs) all = mul-pos all.0 (product_some xs all.1)
+factor_some : (x : Option Berth) → 0 < factor_of x
+factor_some None = omega arith
+factor_some (Some x) = x.positive
+
+product_some : (xs : List (Option Berth)) → 0 < product (factors_of xs)
+product_some [] = omega arith
+product_some (x ∷ xs) = mul-pos (factor_some x) (product_some xs)
 
 -- a whole product is not below that of a front
-pub product_front : (xs : List ℕ) (i : ℕ) → AllByRecursion (λ x. 0 < x) xs → product (take i xs) ≤ product xs
-product_front xs i all =
-    let whole = ap product (sym (take-append-drop i xs)) ∙ product_append (take i xs) (drop i xs) in
-    let some = product_some (drop i xs) (All-drop (λ x. 0 < x) i xs all) in
-    omega (arith, whole, mul-le-mul_left {m = 1} {n = product (drop i xs)} (product (take i xs)) some, mul-one (product (take i xs)))
-
-pub product_bound : (n f : ℕ) → n ≤ 1000000 → f < 65536 → n * f ≤ 65536000000
-product_bound n f small low = omega (arith, mul-le-mul {n₁ = n} {m₁ = f} {n₂ = 1000000} {m₂ = 65536} small (omega arith))
+pub product_front : (xs : List (Option Berth)) (i : ℕ) → product (factors_of (take i xs)) ≤ product (factors_of xs)
+product_front xs zero = product_some xs
+product_front [] (suc i) = omega arith
+product_front (x ∷ xs) (suc i) = mul-le-mul_left (factor_of x) (product_front xs i)

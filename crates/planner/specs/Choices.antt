@@ -1,5 +1,5 @@
 -- The choices there are for the booked boxes of a table, which of two comes first, and the best of them.
-use Rattle.std.specs.Prelude.{◌≡◌, ℕ, ◌+◌, ◌<◌, cond, List, length, ◌==◌, slice_index_or}
+use Rattle.std.specs.Prelude.{◌≡◌, ℕ, ◌+◌, ◌<◌, if◌then◌else◌, List, length, ◌==◌, slice_index_or}
 use Rattle.load.specs.Kinds.{Kind}
 use Rattle.draws.specs.Draws.{Passes, Peak, Places, Reaches}
 use Rattle.table.specs.declared.slot.Booking.{Booking}
@@ -29,7 +29,7 @@ pub record Earlier (slots : List Slot) (v w : ℕ → ℕ) : Type 0 where
 
 -- the running boxes, the boxes fitted in sockets below s, and the box of socket s with wait x
 abbrev pub fitting : List Slot → (ℕ → ℕ) → ℕ → ℕ → Places
-fitting slots w s x = places slots (s + 1) (λ j. cond (j == s) x (w j))
+fitting slots w s x = places slots (s + 1) (λ j. if j == s then x else w j)
 
 module _ {L : Type 0} (K : Kind L) (slots : List Slot) (w : ℕ → ℕ) where
   -- of all choices with the least peak, w is the first

@@ -1,91 +1,70 @@
 // The search for the best choice, box by box in socket order.
-ghost use Rattle.std.specs.Prelude.{◌≡◌, ◌<◌, ◌≤◌};
-ghost use Rattle.planner.specs.Searches.{Begun, Boxed, Completes, Fits, Outcome, Sound};
+ghost use Rattle.std.specs.Prelude.{◌↔◌, ◌<◌, IsTrue};
+ghost use Rattle.table.specs.declared.table.Table.{Table};
+ghost use Rattle.planner.specs.Berths.{factors_of};
+ghost use Rattle.planner.specs.Searches.{Begun, Completes, Outcome, Sound, bar};
 ghost use Rattle.planner.specs.Plans.{waits_of};
 
-use crate::tries::{peak_of, with_started};
-use draws::DrawList;
+use crate::berth::Berth;
+use crate::prefix::Prefix;
+use crate::timetable::Timetable;
 use finder::FullFinder;
 use load::Load;
-use table::{Booking, SOCKETS, Slot, Table};
 
 // What the search knows of all choices.
 #[derive(Clone, Copy)]
 pub struct Space {
-    pub table: Table,
-    // Only waits below these are tried.
-    pub factors: [u16; 24],
+    // The booked boxes, each at the place of its socket.
+    pub berths: [Option<Berth>; 24],
     // No choice peaks below this.
     pub floor: u32,
+    // No choice that peaks above this is taken.
+    pub limit: u32,
 }
 
-// The boxes set so far beside those that run, and the peak that they have.
-#[derive(Clone, Copy)]
-pub struct Prefix {
-    pub list: DrawList,
-    pub peak: u32,
-    pub waits: [u16; 24],
-}
+impl Space {
+    // Whether a choice with this peak is better than the best so far.
+    fn is_better(&self, peak: u32, best: &Option<Timetable>) -> bool
+        ensures { IsTrue result ↔ (peak < bar self.now.limit best.now) }
+    {
+        match best {
+            Some(timetable) => peak < timetable.peak,
+            None => peak <= self.limit,
+        }
+    }
 
-// The best choice so far. Only a peak below the bar is better.
-#[derive(Clone, Copy)]
-pub struct Best {
-    pub bar: u64,
-    pub waits: Option<[u16; 24]>,
-}
-
-// The prefix with one more box.
-fn with_box<L: Load, F: FullFinder<L>>(
-    finder: &mut F,
-    prefix: &Prefix,
-    socket: usize,
-    booking: Booking,
-    wait: u16,
-) -> Prefix
-    requires { Fits socket booking wait }
-    ensures { Boxed L.Load.kind prefix.now socket booking wait result }
-{
-    let list = with_started(&prefix.list, socket, booking, wait);
-    let peak = peak_of::<L, F>(finder, &list);
-    let mut waits = prefix.waits;
-    waits[socket] = wait;
-    Prefix { list, peak, waits }
-}
-
-// The best of `best` and of all choices that begin with the prefix, set in the sockets below `socket`. No such
-// choice peaks below what the prefix does, so where that is not below the bar there is nothing to try.
-pub(crate) fn extend<L: Load, F: FullFinder<L>>(
-    finder: &mut F,
-    space: &Space,
-    socket: usize,
-    prefix: &Prefix,
-    best: Best,
-) -> Best
-    requires sound { Sound L.Load.kind space.now.table.slots space.now }
-    requires begun { Begun L.Load.kind space.now.table.slots space.now.factors socket prefix.now }
-    requires below { prefix.now.peak < best.bar }
-    requires within { socket ≤ 24 }
-    ensures { Outcome L.Load.kind space.now.table.slots (Completes space.now.table.slots space.now.factors socket (waits_of prefix.now.waits)) best result }
-{
-    if socket >= SOCKETS {
-        return Best {
-            bar: u64::from(prefix.peak),
-            waits: Some(prefix.waits),
+    // The best of `best` and of all choices that begin with the prefix, set in the sockets below `socket`. No such
+    // choice peaks below what the prefix does, so where that is not better there is nothing to try.
+    // The finder is a parameter, since behind one `&mut` with it each call would have to say that the space stays.
+    pub(crate) fn extend<L: Load, F: FullFinder<L>>(
+        &self,
+        finder: &mut F,
+        socket: usize,
+        prefix: &Prefix,
+        mut best: Option<Timetable>,
+    ) -> Option<Timetable>
+        requires { prefix.now.peak < bar self.now.limit best }
+        ensures { (table : Table) → Sound L.Load.kind table.slots self.now →
+            Begun L.Load.kind table.slots (factors_of self.now.berths) socket prefix.now →
+            Outcome L.Load.kind table.slots self.now.limit (Completes table.slots
+            (factors_of self.now.berths) socket (waits_of prefix.now.waits)) best result }
+    {
+        let Some(place) = self.berths.get(socket) else {
+            return Some(prefix.timetable());
         };
-    }
-    let Slot::Booked(booking) = space.table.at(socket) else {
-        return extend::<L, F>(finder, space, socket + 1, prefix, best);
-    };
-    let least = u64::from(prefix.peak.max(space.floor));
-    let mut so_far = best;
-    for wait in 0..space.factors[socket] {
-        if so_far.bar <= least {
-            return so_far;
+        let Some(berth) = place else {
+            return self.extend(finder, socket + 1, prefix, best);
+        };
+        let least = prefix.peak.max(self.floor);
+        for wait in 0..berth.factor {
+            if !self.is_better(least, &best) {
+                return best;
+            }
+            let next = prefix.with_box(finder, berth, wait);
+            if self.is_better(next.peak, &best) {
+                best = self.extend(finder, socket + 1, &next, best);
+            }
         }
-        let next = with_box::<L, F>(finder, prefix, socket, booking, wait);
-        if u64::from(next.peak) < so_far.bar {
-            so_far = extend::<L, F>(finder, space, socket + 1, &next, so_far);
-        }
+        best
     }
-    so_far
 }

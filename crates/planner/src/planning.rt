@@ -4,23 +4,25 @@ ghost use Rattle.draws.specs.Draws.{Reaches};
 ghost use Rattle.planner.specs.Choices.{Choice, chosen};
 ghost use Rattle.planner.specs.Plans.{Told};
 
-use crate::branches::{Best, Prefix, Space, extend};
-use crate::counting::{factors, settings};
+use crate::branches::Space;
+use crate::counting::{berths, settings};
 use crate::fitting::fit;
+use crate::prefix::Prefix;
 use crate::timetable::Timetable;
-use crate::tries::peak_of;
 use congruence::Refusal;
 use finder::FullFinder;
 use load::Load;
-use table::{SOCKETS, Slot, Table};
+use table::{Slot, Table};
 
 // What the heaviest booked box measures by itself: no choice peaks below that.
 fn heaviest<L: Load>(table: &Table) -> u32
-    ensures { (v : ℕ → ℕ) → Choice table.now.slots v → Reaches L.Load.kind (chosen table.now.slots v) result }
+    ensures { (v : ℕ → ℕ) → Choice table.now.slots v →
+        Reaches L.Load.kind (chosen table.now.slots v) result }
 {
-    let mut most = 0;
-    for socket in 0..SOCKETS {
-        if let Slot::Booked(booking) = table.at(socket) {
+    // A loop, since a chain of `filter_map` and `max` leaves open which slot its result comes from.
+    let mut most: u32 = 0;
+    for slot in table.slots() {
+        if let Slot::Booked(booking) = slot {
             most = most.max(L::of(booking.rating).measure());
         }
     }
@@ -39,28 +41,17 @@ pub fn plan<L: Load, F: FullFinder<L>>(
     if settings(table).is_none() {
         return Err(Refusal::TooManySettings);
     }
-    let bar = u64::from(fit::<L, F>(finder, table).peak.min(limit)) + 1;
-    let list = table.running();
-    let peak = peak_of::<L, F>(finder, &list);
-    if u64::from(peak) >= bar {
+    let limit = fit(finder, table).peak.min(limit);
+    let prefix = Prefix::new(finder, table.running(), [None; 24]);
+    if prefix.peak > limit {
         return Err(Refusal::LimitPassed);
     }
     let space = Space {
-        table: *table,
-        factors: factors(table),
+        berths: berths(table),
         floor: heaviest::<L>(table),
+        limit,
     };
-    let prefix = Prefix {
-        list,
-        peak,
-        waits: [0; 24],
-    };
-    let best = extend::<L, F>(finder, &space, 0, &prefix, Best { bar, waits: None });
-    match best.waits {
-        Some(waits) => Ok(Timetable {
-            peak: best.bar as u32,
-            waits,
-        }),
-        None => Err(Refusal::LimitPassed),
-    }
+    space
+        .extend(finder, 0, &prefix, None)
+        .ok_or(Refusal::LimitPassed)
 }

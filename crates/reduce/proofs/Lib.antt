@@ -1,4 +1,3 @@
-pub mod Factors
 pub mod Places
 pub mod Meetings
 pub mod Peaks

@@ -1,5 +1,5 @@
 -- Two boxes meet exactly when they meet with their periods reduced.
-use Rattle.std.proofs.Common.{◌≡◌, ℕ, ◌%◌, ◌<◌, [], ◌∷◌, get_or, Some, None, sym, ap, ◌∙◌, ⊎_elim, arith}
+use Rattle.std.proofs.Common.{◌≡◌, ℕ, ◌%◌, [], ◌∷◌, get_or, set, Some, None, sym, ap, ◌∙◌, ⊎_elim, arith}
 use Prim.Native.Nat.{◌∣◌}
 use native.Mathlib.Nat.{dvd_trans, mod-mod_of_dvd}
 use Rattle.std.proofs.lemmas.Bool.{cases_lt}
@@ -10,7 +10,11 @@ use Rattle.congruence.proofs.Meetings.{meet_by_gcd, mod_more}
 use Rattle.congruence.proofs.Merges.{apart_multiple}
 use Rattle.draws.specs.declared.draw.Draw.{Draw}
 use Rattle.draws.specs.Draws.{Places}
-use Rattle.reduce.specs.Reductions.{Factor, shortened}
+use Rattle.reduce.specs.Reductions.{others, shortened}
+use Rattle.draws.specs.Factors.{Factor}
+use Rattle.draws.proofs.Factoring.{factor_divides}
+use Rattle.draws.proofs.Periods.{periods_at}
+use Rattle.std.proofs.lemmas.List.{get_or-set_other}
 
 -- numbers that lie a multiple apart have one remainder
 same_remainder : (a b g : ℕ) → g ∣ apart a b → a % g ≡ b % g
@@ -23,11 +27,8 @@ same_remainder a b g d =
 gcd_swap : {a b g : ℕ} → IsGcd a b g → IsGcd b a g
 gcd_swap s = record { left = s.right; right = s.left; greatest = λ d x y. s.greatest d y x }
 
-factor_divides : (ps : Places) (s p h : ℕ) → Factor ps s p 24 h → h ∣ p
-factor_divides ps s p h f = f.least p (λ j d g low other e is. is.left)
-
 -- two boxes at different places, before and after
-module _ (ps : Places) (i j : ℕ) (d e : Draw) (h k : ℕ) (differ : i ≡ j → ⊥) (i_low : i < 24) (j_low : j < 24) (at_i : get_or ps i None ≡ Some d) (at_j : get_or ps j None ≡ Some e) (f : Factor ps i d.clock.period 24 h) (f' : Factor ps j e.clock.period 24 k) (valid-d : Valid d.clock) (valid-e : Valid e.clock) (valid-d' : Valid (shortened d h).clock) (valid-e' : Valid (shortened e k).clock) where
+module _ (ps : Places) (i j : ℕ) (d e : Draw) (h k : ℕ) (differ : i ≡ j → ⊥) (at_i : get_or ps i None ≡ Some d) (at_j : get_or ps j None ≡ Some e) (f : Factor (others ps i) d.clock.period h) (f' : Factor (others ps j) e.clock.period k) (valid-d : Valid d.clock) (valid-e : Valid e.clock) (valid-d' : Valid (shortened d h).clock) (valid-e' : Valid (shortened e k).clock) where
   g : ℕ
   g = (euclid d.clock.period e.clock.period).g
 
@@ -36,16 +37,16 @@ module _ (ps : Places) (i j : ℕ) (d e : Draw) (h k : ℕ) (differ : i ≡ j �
   before = euclid_gcd (euclid d.clock.period e.clock.period)
 
   in_h : g ∣ h
-  in_h = f.multiple j e g j_low (λ same. differ (sym same)) at_j before
+  in_h = periods_at (λ q. (n : ℕ) → IsGcd d.clock.period q n → n ∣ h) (set ps i None) f.multiple j e (get_or-set_other ps i j None None (λ same. differ (sym same)) ∙ at_j) g before
 
   in_k : g ∣ k
-  in_k = f'.multiple i d g i_low differ at_i (gcd_swap before)
+  in_k = periods_at (λ q. (n : ℕ) → IsGcd e.clock.period q n → n ∣ k) (set ps j None) f'.multiple i d (get_or-set_other ps j i None None differ ∙ at_i) g (gcd_swap before)
 
   after : IsGcd h k g
   after = record {
     left = in_h;
     right = in_k;
-    greatest = λ c x y. before.greatest c (dvd_trans c x (factor_divides ps i d.clock.period h f)) (dvd_trans c y (factor_divides ps j e.clock.period k f'));
+    greatest = λ c x y. before.greatest c (dvd_trans c x (factor_divides f)) (dvd_trans c y (factor_divides f'));
   }
 
   pub meet_shortened : Meet (d.clock ∷ (e.clock ∷ [])) → Meet ((shortened d h).clock ∷ ((shortened e k).clock ∷ []))

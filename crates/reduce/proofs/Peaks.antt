@@ -1,5 +1,5 @@
 -- A reduced list has the pairs that meet and the loads of the list itself, and so its peak.
-use Rattle.std.proofs.Common.{◌≡◌, ℕ, suc, ◌<◌, Bool, cond, [], ◌∷◌, length, get_or, Some, None, Ok, Err, Option, Result, sym, refl, ap, ◌∙◌, subst, ⊎_elim, mod-eq_of_lt, arith}
+use Rattle.std.proofs.Common.{◌≡◌, ℕ, ◌<◌, Bool, [], ◌∷◌, length, get_or, Some, None, Ok, Err, Option, Result, sym, refl, ap, ◌∙◌, subst, ⊎_elim, mod-eq_of_lt, arith}
 use native.Mathlib.Nat.{dvd_antisymm}
 use Rattle.std.proofs.lemmas.List.{ext_get_or, get_or_past}
 use Rattle.std.proofs.lemmas.Bool.{cases_eq, cases_lt}
@@ -10,6 +10,7 @@ use Rattle.draws.specs.declared.draw.Draw.{Draw}
 use Rattle.draws.specs.Draws.{Found, Places, bit, drawing, load_of, total}
 use Rattle.draws.specs.Meetings.{EachTwo, MeetAt}
 use Rattle.draws.proofs.Cliques.{AllValid, drawing_pairs, none_some, pairs_from_together, together_from_pairs}
+use Rattle.draws.proofs.Peaks.{total_places}
 use Rattle.draws.proofs.Totals.{measured_grows}
 use Rattle.finder.specs.Finders.{Answered}
 use Rattle.reduce.specs.Reductions.{Reduced, ReducedAt, shortened}
@@ -52,7 +53,7 @@ module _ (ps qs : Places) (long : length ps ≡ 24) (reduced : Reduced ps 24 qs)
         let to : MeetAt (Some (shortened d h)) (Some (shortened e k)) → MeetAt p' q' = λ z. subst (λ u. MeetAt u q') (sym x) (subst (λ u. MeetAt (Some (shortened d h)) u) (sym y) z) in
         ⊎_elim
         (λ same. subst (λ u. MeetAt p' u) (sym a' ∙ ap (λ n. get_or qs n None) same ∙ b') (some_meets p' (λ c z. valid' i c (a' ∙ z)) (shortened d h) x))
-        (λ differ. to (meet_shortened ps i j d e h k differ i_low j_low a b f f' (valid i d a) (valid j e b) valid-d' valid-e' m))
+        (λ differ. to (meet_shortened ps i j d e h k differ a b f f' (valid i d a) (valid j e b) valid-d' valid-e' m))
         (cases_eq i j)
 
     longer : (p q p' q' : Option Draw) → get_or ps i None ≡ p → get_or ps j None ≡ q → get_or qs i None ≡ p' → get_or qs j None ≡ q' → ReducedAt ps i p p' → ReducedAt ps j q q' → MeetAt p' q' → MeetAt p q
@@ -64,7 +65,7 @@ module _ (ps qs : Places) (long : length ps ≡ 24) (reduced : Reduced ps 24 qs)
         let short : MeetAt (Some (shortened d h)) (Some (shortened e k)) = subst (λ u. MeetAt u (Some (shortened e k))) x (subst (λ u. MeetAt p' u) y m) in
         ⊎_elim
         (λ same. subst (λ u. MeetAt (Some d) u) (sym a ∙ ap (λ n. get_or ps n None) same ∙ b) (meets_itself d (valid i d a)))
-        (λ differ. meet_lengthened ps i j d e h k differ i_low j_low a b f f' (valid i d a) (valid j e b) valid-d' valid-e' short)
+        (λ differ. meet_lengthened ps i j d e h k differ a b f f' (valid i d a) (valid j e b) valid-d' valid-e' short)
         (cases_eq i j)
 
   pairs_shortened : (inside : ℕ → Bool) → EachTwo ps inside → EachTwo qs inside
@@ -80,22 +81,12 @@ module _ (ps qs : Places) (long : length ps ≡ 24) (reduced : Reduced ps 24 qs)
       longer i j i_low j_low (get_or ps i None) (get_or ps j None) (get_or qs i None) (get_or qs j None) refl refl refl refl (reduced.at i i_low) (reduced.at j j_low) (pairs i j a b)
 
   module _ {L : Type 0} (K : Kind L) (laws : Laws K) where
-    -- lists of the same loads have the same totals
-    total_places : (inside : ℕ → Bool) (s : ℕ) (xs ys : Places) → length xs ≡ length ys → ((j : ℕ) → j < length xs → load_of K (get_or xs j None) ≡ load_of K (get_or ys j None)) → total K inside s xs ≡ total K inside s ys
-    unfolding total
-    total_places inside s [] [] e loads = refl
-    total_places inside s [] (y ∷ ys) e loads = absurd (omega (arith, e))
-    total_places inside s (x ∷ xs) [] e loads = absurd (omega (arith, e))
-    total_places inside s (x ∷ xs) (y ∷ ys) e loads =
-        ap (λ v. K.plus (cond (inside s) v K.none) (total K inside (suc s) xs)) (loads 0 (omega arith))
-        ∙ ap (K.plus (cond (inside s) (load_of K y) K.none)) (total_places inside (suc s) xs ys (omega (arith, e)) (λ j low. loads (suc j) (omega (arith, low))))
-
     load_at : (s : ℕ) (p q : Option Draw) → ReducedAt ps s p q → load_of K p ≡ load_of K q
     load_at s None q x = ap (load_of K) (sym x)
     load_at s (Some d) q (h, f, x) = ap (load_of K) (sym x)
 
     same_totals : (inside : ℕ → Bool) → total K inside 0 ps ≡ total K inside 0 qs
-    same_totals inside = total_places inside 0 ps qs (long ∙ sym reduced.long) (λ j low. load_at j (get_or ps j None) (get_or qs j None) (reduced.at j (omega (arith, low, long))))
+    same_totals inside = total_places K inside 0 ps qs (long ∙ sym reduced.long) (λ j low picked. load_at j (get_or ps j None) (get_or qs j None) (reduced.at j (omega (arith, low, long))))
 
     pub found_reduced : (peak group : ℕ) → Found K qs peak group → Found K ps peak group
     found_reduced peak group f =

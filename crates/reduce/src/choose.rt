@@ -22,10 +22,5 @@ impl<L: Load, F: Finder<L>, G: FullFinder<L>> Finder<L> for Choose<F, G> {
 }
 
 impl<L: Load, F: Finder<L>, G: FullFinder<L>> FullFinder<L> for Choose<F, G> {
-    fn find_any(&mut self, list: &DrawList) -> (u32, u32) {
-        match self.first.find(list) {
-            Ok(found) => found,
-            Err(_) => self.second.find_any(list),
-        }
-    }
+    ghost full = { λ _ _. tt };
 }

@@ -22,7 +22,5 @@ impl<L: Load, F: Finder<L>> Finder<L> for Reduce<F> {
 }
 
 impl<L: Load, F: FullFinder<L>> FullFinder<L> for Reduce<F> {
-    fn find_any(&mut self, list: &DrawList) -> (u32, u32) {
-        self.below.find_any(&reduced(list))
-    }
+    ghost full = { λ s _ qs _. F.FullFinder.full s.below qs };
 }

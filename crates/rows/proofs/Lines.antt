@@ -1,6 +1,7 @@
--- A word more of a line, and what stands before a comment.
-use Rattle.std.proofs.Common.{◌≡◌, ℕ, suc, ◌+◌, ◌<◌, ◌≤◌, false, eqb, List, [], ◌∷◌, ◌++◌, map, length, get_or, Ok, Err, sym, refl, ap, ◌∙◌, subst, append_assoc, append-nil, arith}
-use Rattle.std.specs.Char.{is_whitespace, is_not_whitespace}
+-- A word more of a line, a line more of a text, and what stands before a comment.
+use Rattle.std.proofs.Common.{◌≡◌, ℕ, zero, suc, drop, length-append, ◌+◌, ◌<◌, ◌≤◌, false, eqb, List, [], ◌∷◌, ◌++◌, map, length, get_or, Ok, Err, sym, refl, ap, ◌∙◌, subst, append_assoc, append-nil, arith}
+use Rattle.std.specs.Char.{encode_utf8, is_newline, is_whitespace, is_not_whitespace}
+use Rattle.std.proofs.lemmas.Str.{length-encode, len_utf8_bounds}
 use Rattle.std.specs.Str.{NoCharPasses, EmptyOrStartsWithPassing}
 use Rattle.std.specs.List.{AllByRecursion}
 use Rattle.std.proofs.ByRecursion.{All-push}
@@ -45,9 +46,6 @@ pub record Sofar (text rest : List ℕ) (ns : List ℕ) : Type 0 where
   pub all : AllByRecursion IsNumber seen
   pub numbers : ns ≡ map number_of seen
 
-pub sofar_none : (text : List ℕ) → Sofar text text []
-sofar_none text = record { seen = []; words = refl; all = tt; numbers = refl }
-
 pub sofar_more : (text rest ns w next : List ℕ) (n : ℕ) → Sofar text rest ns → FirstWord rest w next → IsNumber w → n ≡ number_of w → Sofar text next (ns ++ n ∷ [])
 sofar_more text rest ns w next n old first is e = record {
   seen = old.seen ++ w ∷ [];
@@ -76,40 +74,46 @@ rows_push k n m (v ∷ ls) rs l here e h gives = (
   ap (λ r. r ++ here) h.4 ∙ append_assoc h.0 h.1 here,
 )
 
--- the lines up to rest, the last of them line `at`, give the rows
+-- the lines up to rest, before line `at`, give the rows
 pub record Read (k most : ℕ) (text rest : List ℕ) (at : ℕ) (rows : List Row) : Type 0 where
   pub lines : List (List ℕ)
   pub cut : Lines text lines rest
-  pub number : at ≡ length lines
+  pub number : at ≡ length lines + 1
+  pub within : at + length rest ≤ length text + 1
   pub given : Rows k 1 lines (map said rows)
   pub few : length rows ≤ most
-
-pub read_none : (k most : ℕ) (text : List ℕ) (rows : List Row) → rows ≡ [] → Read k most text text 0 rows
-read_none k most text rows e = record { lines = []; cut = refl; number = refl; given = ap (map said) e; few = omega (arith, ap length e) }
 
 -- what `lines` says of an item
 abbrev Next : List ℕ → List ℕ → List ℕ → Type 0
 Next rest l next = (0 < length rest) × (length l + length next ≤ length rest) × IsFirstLine rest l next
 
-pub read_more : (k most : ℕ) (text rest l next : List ℕ) (at : ℕ) (old new : List Row) → Read k most text rest at old → Next rest l next → Adds k most (at + 1) l old new (Ok tt) → Read k most text next (at + 1) new
+-- each line takes a byte at least
+shorter : (n : ℕ) (rest next : List ℕ) → 0 < length rest → EmptyOrStartsWithPassing is_newline (drop n rest) next → n + length next ≤ length rest → length next < length rest
+shorter zero rest next some starts within =
+    let first = starts some in
+    omega (arith, ap length first.2, length-append (encode_utf8 first.0) next, length-encode first.0, len_utf8_bounds first.0)
+shorter (suc n) rest next some starts within = omega arith
+
+pub read_more : (k most : ℕ) (text rest l next : List ℕ) (at : ℕ) (old new : List Row) → Read k most text rest at old → Next rest l next → Adds k most at l old new (Ok tt) → Read k most text next (at + 1) new
 read_more k most text rest l next at old new r line adds = record {
   lines = r.lines ++ l ∷ [];
   cut = lines_push text r.lines rest l next r.cut line.0 line.2;
   number = omega (arith, r.number, length_push r.lines l);
-  given = subst (Rows k 1 (r.lines ++ l ∷ [])) (sym adds.2) (rows_push k 1 (at + 1) r.lines (map said old) l adds.0 (omega (arith, r.number)) r.given adds.1);
+  within = omega (arith, r.within, shorter line.2.0 rest next line.0 line.2.2 line.2.3);
+  given = subst (Rows k 1 (r.lines ++ l ∷ [])) (sym adds.2) (rows_push k 1 at r.lines (map said old) l adds.0 (omega (arith, r.number)) r.given adds.1);
   few = adds.3 r.few;
 }
 
-upto : (k most n : ℕ) (text rest l next : List ℕ) (at : ℕ) (old : List Row) → Read k most text rest at old → Next rest l next → n ≡ at + 1 → UpTo k text n l (map said old)
+upto : (k most n : ℕ) (text rest l next : List ℕ) (at : ℕ) (old : List Row) → Read k most text rest at old → Next rest l next → n ≡ at → UpTo k text n l (map said old)
 upto k most n text rest l next at old r line e = record {
   lines = r.lines;
   rest = next;
   cut = lines_push text r.lines rest l next r.cut line.0 line.2;
-  number = omega (arith, r.number, e);
+  number = e ∙ r.number;
   rows = r.given;
 }
 
-pub read_fault : (k most : ℕ) (text rest l next : List ℕ) (at : ℕ) (old new : List Row) (e : RowsFault) → Read k most text rest at old → Next rest l next → Adds k most (at + 1) l old new (Err e) → Reads k most text (Err e)
+pub read_fault : (k most : ℕ) (text rest l next : List ℕ) (at : ℕ) (old new : List Row) (e : RowsFault) → Read k most text rest at old → Next rest l next → Adds k most at l old new (Err e) → Reads k most text (Err e)
 read_fault k most text rest l next at old new (BadLine n) r line adds = (l, map said old, upto k most n text rest l next at old r line adds.0, adds.1)
 read_fault k most text rest l next at old new (TooManyRows n) r line adds = (
   l,

@@ -1,5 +1,5 @@
 -- What the lines of a text say: the numbers of each, up to its comment.
-use Rattle.std.specs.Prelude.{◌≡◌, ℕ, ◌+◌, ◌^◌, ◌<◌, ◌≤◌, cond, ◌⊎◌, List, [], ◌∷◌, ◌++◌, map, length, Ok, Err, vec_items, vec_len, Result, Vec, ◌==◌, ◌≢◌}
+use Rattle.std.specs.Prelude.{◌≡◌, ℕ, ◌+◌, ◌^◌, ◌<◌, ◌≤◌, if◌then◌else◌, ◌⊎◌, List, [], ◌∷◌, ◌++◌, map, length, Ok, Err, vec_items, vec_len, Result, Vec, ◌==◌, ◌≢◌}
 use Rattle.std.specs.Str.Parse.{IsNumeral, without_leading_plus, digits_value}
 use Rattle.std.specs.Char.{is_whitespace, is_not_whitespace}
 use Rattle.std.specs.Str.{NoCharPasses, EmptyOrStartsWithPassing}
@@ -13,7 +13,7 @@ use Rattle.rows.specs.declared.RowsFault.TheVariants.{BadLine, TooManyRows, Memo
 -- what stands before the first byte c
 abbrev pub before : ℕ → List ℕ → List ℕ
 before c [] = []
-before c (b ∷ bs) = cond (b == c) [] (b ∷ before c bs)
+before c (b ∷ bs) = if b == c then [] else b ∷ before c bs
 
 -- bs is white space, the word w, and rest, which is empty or begins with white space
 pub record FirstWord (bs w rest : List ℕ) : Type 0 where

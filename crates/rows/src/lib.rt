@@ -8,6 +8,9 @@ ghost use Rattle.rows.specs.Rows.{before, Numbers, NoNumbers, Adds, Reads};
 
 use std::alloc::{AllocFailed, Global};
 
+// What begins a comment.
+const COMMENT: char = '#';
+
 // A row, and the number of its line, counted from 1.
 #[derive(Debug, Drop)]
 pub struct Row {
@@ -24,6 +27,7 @@ pub enum RowsFault {
     Memory,
 }
 
+// Written out, since a derived `From` doesn't say which fault it makes.
 impl<T: Drop> From<AllocFailed<T>> for RowsFault {
     ghost from_gives = { λ _ r. r ≡ Memory };
 
@@ -36,7 +40,7 @@ impl<T: Drop> From<AllocFailed<T>> for RowsFault {
 fn uncommented(line: &str) -> &str
     ensures { result.now ≡ before 35 line.now }
 {
-    match line.split_once('#') {
+    match line.split_once(COMMENT) {
         Some((text, _)) => text,
         None => line,
     }
@@ -48,53 +52,46 @@ fn numbers(heap: Global, at: usize, line: &str) -> Result<Vec<u32>, RowsFault>
 {
     let mut out = Vec::new(heap);
     for word in uncommented(line).split_whitespace() {
-        let Ok(n) = word.parse::<u32>() else {
-            return Err(RowsFault::BadLine(at));
-        };
+        let n = word.parse::<u32>().map_err(|_| RowsFault::BadLine(at))?;
         out.push(n)?;
     }
     Ok(out)
 }
 
-// The row of line `at`, if it has one, behind the rows so far.
-fn add_row(
-    heap: Global,
-    rows: &mut Vec<Row>,
-    at: usize,
-    line: &str,
-    columns: usize,
-    most: usize,
-) -> Result<(), RowsFault>
-    ensures { Adds columns most at line.now rows.old.items rows.new.items result }
-{
-    let numbers = numbers(heap, at, line)?;
-    if numbers.is_empty() {
-        return Ok(());
-    }
-    if numbers.len() != columns {
-        return Err(RowsFault::BadLine(at));
-    }
-    if rows.len() >= most {
-        return Err(RowsFault::TooManyRows(at));
-    }
-    rows.push(Row { line: at, numbers })?;
-    Ok(())
+// How many numbers a row has, and how many rows a text may have.
+#[derive(Clone, Copy, Debug, PartialEq, Eq)]
+pub struct Layout {
+    pub columns: usize,
+    pub most: usize,
 }
 
-// The rows of a text, each of `columns` numbers, and at most `most` of them.
-pub fn read_rows(
-    heap: Global,
-    text: &str,
-    columns: usize,
-    most: usize,
-) -> Result<Vec<Row>, RowsFault>
-    ensures { Reads columns most text.now result }
-{
-    let mut rows = Vec::new(heap);
-    let mut at = 0;
-    for line in text.lines() {
-        at += 1;
-        add_row(heap, &mut rows, at, line, columns, most)?;
+impl Layout {
+    // The row of line `at`, if it has one, behind the rows so far.
+    fn add(self, heap: Global, rows: &mut Vec<Row>, at: usize, line: &str) -> Result<(), RowsFault>
+        ensures { Adds self.columns self.most at line.now rows.old.items rows.new.items result }
+    {
+        let numbers = numbers(heap, at, line)?;
+        if numbers.is_empty() {
+            return Ok(());
+        }
+        if numbers.len() != self.columns {
+            return Err(RowsFault::BadLine(at));
+        }
+        if rows.len() >= self.most {
+            return Err(RowsFault::TooManyRows(at));
+        }
+        rows.push(Row { line: at, numbers })?;
+        Ok(())
     }
-    Ok(rows)
+
+    // The rows of a text.
+    pub fn read(self, heap: Global, text: &str) -> Result<Vec<Row>, RowsFault>
+        ensures { Reads self.columns self.most text.now result }
+    {
+        let mut rows = Vec::new(heap);
+        for (line, at) in text.lines().zip(1..) {
+            self.add(heap, &mut rows, at, line)?;
+        }
+        Ok(rows)
+    }
 }

@@ -1,3 +1,4 @@
 pub mod Tables
 pub mod Visits
+pub mod Pairs
 pub mod Starts

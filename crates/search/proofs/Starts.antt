@@ -7,7 +7,7 @@ use Rattle.draws.specs.Draws.{Found, Places, bit, drawing, due, measured}
 use Rattle.draws.proofs.Bits.{bit_none}
 use Rattle.draws.proofs.Cliques.{AllValid, drawing_pairs, together_from_pairs}
 use Rattle.draws.proofs.Totals.{total_none}
-use Rattle.search.specs.Visits.{Held, Node, Reached, Visited}
+use Rattle.search.specs.Visits.{Held, IsNode, Reached, Visited}
 
 none_set : (i : ℕ) → bit 0 i ≡ true → ⊥
 none_set i e = false≢true (sym (bit_none i) ∙ e)
@@ -23,7 +23,7 @@ module _ {L : Type 0} (K : Kind L) (laws : Laws K) (ps : Places) where
   pub reached_none : Reached K ps 0 0
   reached_none = record { meets = λ i j a b. absurd (none_set i a); reaches = nothing }
 
-  pub node_none : (left : ℕ) (load : L) → load ≡ K.none → Held ps 24 left → Node K ps 0 load left 0
+  pub node_none : (left : ℕ) (load : L) → load ≡ K.none → Held ps 24 left → IsNode K ps 0 load left 0
   node_none left load e held = record {
     group_within = omega arith;
     left_within = held.below;

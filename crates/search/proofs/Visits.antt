@@ -10,7 +10,7 @@ use Rattle.draws.specs.Meetings.{EachTwo, MeetAt}
 use Rattle.draws.proofs.Bits.{Lowest, bit_of_and, bit_below, bit_none, bit_of_or, bit_power}
 use Rattle.draws.proofs.Sums.{bit_cleared}
 use Rattle.draws.proofs.Totals.{either, only, measured_grows, total_more, total_same, total_split}
-use Rattle.search.specs.Visits.{Node, Reached, Row, Visited}
+use Rattle.search.specs.Visits.{IsNode, Reached, Row, Visited}
 
 meet_sym : (p q : Option Draw) → MeetAt p q → MeetAt q p
 meet_sym None q m = absurd m
@@ -24,7 +24,7 @@ behind left = bit_and left (left - 1)
 abbrev pub with_place : ℕ → ℕ → ℕ
 with_place group s = bit_or group (2 ^ s)
 
-module _ {L : Type 0} (K : Kind L) (laws : Laws K) (ps : Places) (few : length ps ≤ 64) (group : ℕ) (load : L) (left peak best : ℕ) (node : Node K ps group load left peak) (reached : Reached K ps peak best) where
+module _ {L : Type 0} (K : Kind L) (laws : Laws K) (ps : Places) (few : length ps ≤ 64) (group : ℕ) (load : L) (left peak best : ℕ) (node : IsNode K ps group load left peak) (reached : Reached K ps peak best) where
   -- nothing is left
   pub visited_none : left ≡ 0 → Visited K ps group left peak peak best
   visited_none e = record {
@@ -86,7 +86,7 @@ module _ {L : Type 0} (K : Kind L) (laws : Laws K) (ps : Places) (few : length p
     pub reached_with : Reached K ps (K.measure (K.plus load (load_of K (get_or ps s None)))) (with_place group s)
     reached_with = record { meets = with_meets; reaches = ap K.measure (sym load_with) }
 
-    pub node_with : (now : ℕ) → K.measure (K.plus load (load_of K (get_or ps s None))) ≤ now → Node K ps (with_place group s) (K.plus load (load_of K (get_or ps s None))) (bit_and (behind left) row) now
+    pub node_with : (now : ℕ) → K.measure (K.plus load (load_of K (get_or ps s None))) ≤ now → IsNode K ps (with_place group s) (K.plus load (load_of K (get_or ps s None))) (bit_and (behind left) row) now
     node_with now seen = record {
       group_within = or_lt 24 group (2 ^ s) node.group_within (pow-lt low.within);
       left_within = omega (arith, node.left_within, and_le_l left (left - 1), and_le_l (bit_and left (left - 1)) row);
@@ -105,7 +105,7 @@ module _ {L : Type 0} (K : Kind L) (laws : Laws K) (ps : Places) (few : length p
         both : (i : ℕ) → bit (bit_and (behind left) row) i ≡ true → (bit (behind left) i ≡ true) × (bit row i ≡ true)
         both i h = and_parts _ _ (sym (bit_of_and (behind left) row i) ∙ h)
 
-    pub node_without : (now : ℕ) → peak ≤ now → Node K ps group load (behind left) now
+    pub node_without : (now : ℕ) → peak ≤ now → IsNode K ps group load (behind left) now
     node_without now more = record {
       group_within = node.group_within;
       left_within = omega (arith, node.left_within, and_le_l left (left - 1));

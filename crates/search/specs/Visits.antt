@@ -24,7 +24,7 @@ pub record Reached {L : Type 0} (K : Kind L) (ps : Places) (peak group : ℕ) : 
 
 -- Where a search stands: the boxes of the group meet in pairs, and load is their load; those that are left, none of
 -- them in the group, each meet every box of it; the group itself measures no more than the best.
-pub record Node {L : Type 0} (K : Kind L) (ps : Places) (group : ℕ) (load : L) (left best : ℕ) : Type 0 where
+pub record IsNode {L : Type 0} (K : Kind L) (ps : Places) (group : ℕ) (load : L) (left best : ℕ) : Type 0 where
   pub group_within : group < 2 ^ 24
   pub left_within : left < 2 ^ 24
   pub load_is : load ≡ total K (bit group) 0 ps

@@ -1,21 +1,21 @@
 -- What the boxes of a table draw, now and once booked boxes have started.
-use Rattle.std.specs.Prelude.{ℕ, suc, cond, List, [], ◌∷◌, Some, None, Option, nat_lt}
+use Rattle.std.specs.Prelude.{ℕ, suc, if◌then◌else◌, List, [], ◌∷◌, Some, None, Err, Option, Result, nat_lt}
 use Rattle.congruence.specs.declared.refusals.Refusal.{Refusal}
 use Rattle.draws.specs.declared.draw.Draw.{Draw}
 use Rattle.draws.specs.Draws.{Places}
 use Rattle.draws.specs.Lists.{place_check}
 use Rattle.table.specs.declared.slot.Slot.{Slot}
 use Rattle.table.specs.declared.slot.Slot.TheVariants.{Empty, Booked, Running}
-use Rattle.table.specs.Slots.{slot_fault, started}
+use Rattle.table.specs.Slots.{slot_verdict, started}
 
 -- socket first, then what is wrong with the slot
-abbrev pub set_fault : ℕ → Slot → Option Refusal
-set_fault s x = cond (place_check s).passes (slot_fault x) (Some (place_check s).refusal)
+abbrev pub set_verdict : ℕ → Slot → Result (Unit {0}) Refusal
+set_verdict s x = if (place_check s).passes then slot_verdict x else Err (place_check s).refusal
 
 -- What draws at socket s once the booked boxes of the sockets below n have started, each with the wait that w gives it.
 abbrev pub place_of : ℕ → (ℕ → ℕ) → ℕ → Slot → Option Draw
 place_of n w s Empty = None
-place_of n w s (Booked b) = cond (nat_lt s n) (Some (started b (w s))) None
+place_of n w s (Booked b) = if nat_lt s n then Some (started b (w s)) else None
 place_of n w s (Running d) = Some d
 
 -- the same of slots of which the first is socket s

@@ -2,7 +2,6 @@
 #![tactic(auto)]
 
 mod slot;
-mod sockets;
 mod table;
 
 pub use slot::{Booking, Slot};

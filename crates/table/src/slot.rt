@@ -1,6 +1,6 @@
 // What a socket holds.
 ghost use Rattle.std.specs.Prelude.{◌≡◌};
-ghost use Rattle.table.specs.Slots.{booking_fault, slot_fault, started};
+ghost use Rattle.table.specs.Slots.{booking_verdict, slot_verdict, started};
 
 use congruence::{Clock, Refusal};
 use draws::Draw;
@@ -27,12 +27,12 @@ impl Booking {
         }
     }
 
-    // Why no table can hold this; None for what a table can hold.
-    pub fn fault(self) -> Option<Refusal>
-        ensures { result ≡ booking_fault self }
+    // Refuses what no table can hold.
+    pub fn check(self) -> Result<(), Refusal>
+        ensures { result ≡ booking_verdict self }
     {
         // Every period has the wait 0, so this leaves just the checks of the period and the rating.
-        self.started(0).fault()
+        self.started(0).check()
     }
 }
 
@@ -44,14 +44,14 @@ pub enum Slot {
 }
 
 impl Slot {
-    // Why no table can hold this; None for what a table can hold.
-    pub fn fault(self) -> Option<Refusal>
-        ensures { result ≡ slot_fault self }
+    // Refuses what no table can hold.
+    pub fn check(self) -> Result<(), Refusal>
+        ensures { result ≡ slot_verdict self }
     {
         match self {
-            Slot::Empty => None,
-            Slot::Booked(booking) => booking.fault(),
-            Slot::Running(draw) => draw.fault(),
+            Slot::Empty => Ok(()),
+            Slot::Booked(booking) => booking.check(),
+            Slot::Running(draw) => draw.check(),
         }
     }
 }

@@ -1,15 +1,17 @@
 -- The ticks that were gone through, and all others.
-use Rattle.std.proofs.Common.{◌≡◌, ℕ, zero, suc, ◌+◌, ◌%◌, ◌<◌, ◌≤◌, true, eqb, [], ◌∷◌, length, Some, None, sym, refl, ap, ◌∙◌, subst, ⊎_elim, mod-lt, arith}
+use Rattle.std.proofs.Common.{◌≡◌, ℕ, zero, suc, ◌%◌, ◌<◌, ◌≤◌, true, false, eqb, [], ◌∷◌, length, Option, Some, None, IfSome, IsSomeAnd, MatchOption, Ordering, is_gt, unwrap_or, sym, refl, ap, ◌∙◌, subst, mod-lt, zero-add, arith}
 use Prim.Native.Nat.{◌∣◌}
+use denote.Param.Members.{Called, Mut}
 use native.Mathlib.Nat.{mod-mod_of_dvd}
 use Rattle.std.specs.List.{AllByRecursion}
-use Rattle.std.proofs.lemmas.Bool.{cases_lt, false≢true}
+use Rattle.std.specs.Iterator.Runs.{AllItems, AnyItem, CallKeepsClosure, IsMapRun, ItemsCountUp, Run}
+use Rattle.std.specs.Option.{option_map}
 use Rattle.load.specs.Kinds.{Kind, Laws}
 use Rattle.congruence.specs.Divisors.{IsLcm}
-use Rattle.draws.specs.Draws.{Found, Places, at_tick, bit, drawing, measured, periods_of, total}
+use Rattle.draws.specs.Draws.{Found, Places, at_tick, bit, drawing, periods_of, total}
 use Rattle.draws.specs.Masks.{Names}
-use Rattle.draws.proofs.Bits.{bit_none, same_test}
-use Rattle.draws.proofs.Totals.{total_below, total_none, total_same}
+use Rattle.draws.proofs.Bits.{same_test}
+use Rattle.draws.proofs.Totals.{total_below, total_same}
 
 -- a cycle later each place does as it did
 drawing_cycle : (ps : Places) (m t s : ℕ) → AllByRecursion (λ p. p ∣ m) (periods_of ps) → drawing ps (t % m) s ≡ drawing ps t s
@@ -19,12 +21,13 @@ drawing_cycle (None ∷ ps) m t (suc s) all = drawing_cycle ps m t s all
 drawing_cycle (Some d ∷ ps) m t zero all = ap (λ n. eqb n d.clock.wait) (mod-mod_of_dvd d.clock.period t all.0)
 drawing_cycle (Some d ∷ ps) m t (suc s) all = drawing_cycle ps m t s all.1
 
--- the best of the ticks below n: what draws at it, or a part of that, and what it measures
-pub record Walked {L : Type 0} (K : Kind L) (ps : Places) (n peak group : ℕ) : Type 0 where
-  pub tick : ℕ
-  pub together : (s : ℕ) → bit group s ≡ true → drawing ps tick s ≡ true
-  pub reaches : measured K ps (bit group) ≡ peak
-  pub most : (t : ℕ) → t < n → at_tick K ps t ≤ peak
+same_some : (o : Option ℕ) (n : ℕ) → option_map (λ y. y) o ≡ Some n → o ≡ Some n
+same_some (Some x) n e = e
+same_some None n e = absurd cc
+
+some_of : {X : Type 0} (P : X → Type 0) (o : Option X) → IsSomeAnd o P → (x : X) × (o ≡ Some x) × P x
+some_of P (Some x) h = (x, refl, h)
+some_of P None h = absurd h
 
 module _ {L : Type 0} (K : Kind L) (laws : Laws K) (ps : Places) (few : length ps ≤ 24) where
   -- what a mask of all that draw at a tick measures
@@ -32,44 +35,47 @@ module _ {L : Type 0} (K : Kind L) (laws : Laws K) (ps : Places) (few : length p
   drawn_load t mask names =
       total_below K laws (bit mask) (drawing ps t) 0 ps (λ i below. same_test (bit mask i) (drawing ps t i) (λ h. (names.sound i h).1) (λ h. names.complete i (omega arith) h))
 
-  pub walked_none : Walked K ps 0 0 0
-  walked_none = record {
-    tick = 0;
-    together = λ s h. absurd (false≢true (sym (bit_none s) ∙ h));
-    reaches = ap K.measure (total_none K laws (bit 0) ps bit_none) ∙ laws.none_measure;
-    most = λ t h. absurd (omega arith);
-  }
+  -- what draws at a tick, as a mask, and what it measures
+  abbrev pub Drawn : ℕ → ℕ × ℕ → Type 0
+  Drawn t r = Names (λ s. drawing ps t s ≡ true) 24 r.1 × (r.0 ≡ K.measure (total K (bit r.1) 0 ps))
 
-  more : (n peak peak' : ℕ) → peak ≤ peak' → at_tick K ps n ≤ peak' → ((t : ℕ) → t < n → at_tick K ps t ≤ peak) → (t : ℕ) → t < n + 1 → at_tick K ps t ≤ peak'
-  more n peak peak' up here old t h =
-      ⊎_elim (λ low. omega (arith, old t low)) (λ high. let e : t ≡ n = omega arith in subst (λ i. at_tick K ps i ≤ peak') (sym e) here) (cases_lt t n)
+  -- the greatest of what all ticks of a cycle measure
+  module _ {S T F : Type 0} {steps : S → Option (ℕ × ℕ) → S → Type 0} {source : T → Option ℕ → T → Type 0} (p : Run steps) (q : Run source)
+      (g : Mut F (ℕ × Unit {0}) (ℕ × ℕ)) (f : F) (cycle : ℕ) (whole : p.whole ≡ true) (mapped : IsMapRun p q g f) (up : ItemsCountUp q 0 cycle)
+      (keeps : CallKeepsClosure g f) (drawn : (t : ℕ) (r : ℕ × ℕ) → Called g f (t, tt) r f → Drawn t r) where
+    long : q.len ≡ cycle
+    long = let e = up.1 (mapped.0 ∙ whole) in omega (arith, e)
 
-  module _ (n peak group : ℕ) (old : Walked K ps n peak group) (mask m : ℕ) (names : Names (λ s. drawing ps n s ≡ true) 24 mask) (measures : m ≡ K.measure (total K (bit mask) 0 ps)) where
-    here : m ≡ at_tick K ps n
-    here = measures ∙ ap K.measure (drawn_load n mask names)
+    drawn_at : (t : ℕ) → t < cycle → (r : ℕ × ℕ) × (p.at t ≡ Some r) × Drawn t r
+    drawn_at t low =
+        let at : q.at t ≡ Some t = same_some _ t (rw (zero-add t) at (up.3 t (omega (arith, long)))) in
+        let r = some_of (λ r. Called g f (t, tt) r f) (p.at t) (subst (λ o. IfSome o (λ x. IsSomeAnd (p.at t) (λ y. Called g f (x, tt) y f))) at ((mapped.2 keeps).0 t)) in
+        (r.0, r.1, drawn t r.0 r.2)
 
-    pub walked_higher : peak < m → Walked K ps (n + 1) m mask
-    walked_higher up = record {
-      tick = n;
-      together = λ s h. (names.sound s h).1;
-      reaches = sym measures;
-      most = more n peak m (omega arith) (omega (arith, here)) old.most;
-    }
+    tick_of : (k : ℕ) (m : ℕ × ℕ) → p.at k ≡ Some m → (t : ℕ) × Drawn t m
+    tick_of k m e =
+        let t = some_of (λ t. Called g f (t, tt) m f) (q.at k) (subst (λ o. IfSome o (λ y. IsSomeAnd (q.at k) (λ x. Called g f (x, tt) y f))) e ((mapped.2 keeps).1 k)) in
+        (t.0, drawn t.0 m t.2)
 
-    pub walked_lower : m ≤ peak → Walked K ps (n + 1) peak group
-    walked_lower low = record {
-      tick = old.tick;
-      together = old.together;
-      reaches = old.reaches;
-      most = more n peak peak (omega arith) (omega (arith, here)) old.most;
-    }
-
-  pub found : (n m peak group : ℕ) → m ≤ n → 0 < m → IsLcm (periods_of ps) m → Walked K ps n peak group → Found K ps peak group
-  found n m peak group all some l w = record {
-    tick = w.tick;
-    together = w.together;
-    reaches = w.reaches;
-    most = λ t.
-        let low : t % m < m = mod-lt t some in
-        subst (λ x. K.measure x ≤ peak) (total_same K laws (drawing ps (t % m)) (drawing ps t) 0 ps (λ s. drawing_cycle ps m t s l.multiple)) (w.most (t % m) (omega arith));
-  }
+    pub found_greatest :
+        (cmp : ℕ × ℕ → ℕ × ℕ → Ordering) (best : Option (ℕ × ℕ)) → 0 < cycle → IsLcm (periods_of ps) cycle
+        → MatchOption best (p.len ≡ 0) (λ m. AnyItem p (λ x. x ≡ m) × AllItems p (λ x. is_gt (cmp x m) ≡ false))
+        → ((x m : ℕ × ℕ) → is_gt (cmp x m) ≡ false → x.0 ≤ m.0)
+        → Found K ps (unwrap_or best (0, 0)).0 (unwrap_or best (0, 0)).1
+    found_greatest cmp None some l none least = absurd (omega (arith, mapped.1, long, none))
+    found_greatest cmp (Some m) some l (any, all) least =
+        let one = some_of (λ x. x ≡ m) (p.at any.0) any.2 in
+        let tick = tick_of any.0 m (one.1 ∙ ap Some one.2) in
+        record {
+          tick = tick.0;
+          together = λ s h. (tick.1.0.sound s h).1;
+          reaches = sym tick.1.1;
+          most = λ t.
+              let low : t % cycle < cycle = mod-lt t some in
+              let r = drawn_at (t % cycle) low in
+              let less : r.0.0 ≤ m.0 = least r.0 m (subst (λ o. IfSome o (λ x. is_gt (cmp x m) ≡ false)) r.1 (all (t % cycle))) in
+              let same : r.0.0 ≡ at_tick K ps (t % cycle) = r.2.1 ∙ ap K.measure (drawn_load (t % cycle) r.0.1 r.2.0) in
+              let later : total K (drawing ps (t % cycle)) 0 ps ≡ total K (drawing ps t) 0 ps =
+              total_same K laws (drawing ps (t % cycle)) (drawing ps t) 0 ps (λ s. drawing_cycle ps cycle t s l.multiple) in
+              subst (λ x. K.measure x ≤ m.0) later (omega (arith, less, same));
+        }

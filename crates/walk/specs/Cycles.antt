@@ -1,5 +1,5 @@
 -- Which lists have a short cycle.
-use Rattle.std.specs.Prelude.{ℕ, ◌<◌, ◌≤◌, [], ◌∷◌, Some, None, Option}
+use Rattle.std.specs.Prelude.{◌≡◌, ℕ, ◌≤◌, Some, None, Option}
 use Rattle.congruence.specs.Divisors.{IsLcm}
 use Rattle.draws.specs.declared.draw.Draw.{Draw}
 use Rattle.draws.specs.Draws.{Places, periods_of}
@@ -15,7 +15,7 @@ Cycle ps m = IsLcm (periods_of ps) m × (m ≤ longest)
 abbrev pub Short : Places → Type 0
 Short ps = (m : ℕ) × Cycle ps m
 
--- a cycle with one more place, or that it is too long
-abbrev pub Front : ℕ → Option Draw → Option ℕ → Type 0
-Front m p (Some n) = IsLcm (m ∷ periods_of (p ∷ [])) n × (n ≤ longest)
-Front m p None = (n : ℕ) × IsLcm (m ∷ periods_of (p ∷ [])) n × (longest < n)
+-- the period of what a place holds, 1 where it holds nothing: for the contract of a private function only
+abbrev pub PeriodAt : Option Draw → ℕ → Type 0
+PeriodAt None n = n ≡ 1
+PeriodAt (Some d) n = n ≡ d.clock.period

@@ -1,15 +1,16 @@
 // A finder that goes through one whole cycle of a list, tick by tick.
 #![tactic(auto)]
 
-ghost use Rattle.std.specs.Prelude.{◌≡◌, ◌<◌, ◌≤◌, MatchOption};
+ghost use Rattle.std.specs.Prelude.{◌≡◌, None, MatchOption, slice_index_or};
 ghost use Rattle.draws.specs.Draws.{Found, periods_of};
 ghost use Rattle.congruence.specs.Divisors.{IsLcm};
-ghost use Rattle.walk.specs.Cycles.{Cycle, Front, Short, longest};
+ghost use Rattle.walk.specs.Cycles.{Cycle, PeriodAt, Short};
 
-use congruence::{Refusal, lcm};
-use draws::{Draw, DrawList, PLACES, drawing_at, load_of};
+use congruence::{Refusal, lcm_of};
+use draws::DrawList;
 use finder::Finder;
 use load::Load;
+use std::array;
 
 // The longest cycle that is gone through, in ticks.
 const LONGEST_CYCLE: u64 = 65_536;
@@ -17,28 +18,22 @@ const LONGEST_CYCLE: u64 = 65_536;
 #[derive(Clone, Copy, Debug)]
 pub struct Walk;
 
-// The cycle with one more place; None where it is too long.
-fn longer(cycle: u64, place: Option<Draw>) -> Option<u64>
-    requires { cycle ≤ longest }
-    ensures { Front cycle place result }
+// The period of what stands at a place, 1 where nothing does.
+fn period_at(list: &DrawList, place: usize) -> u64
+    ensures { PeriodAt (slice_index_or list.now.places place None) result }
 {
-    let Some(draw) = place else {
-        return Some(cycle);
-    };
-    let next = lcm(cycle, u64::from(draw.clock.period))?;
-    let short = next <= LONGEST_CYCLE;
-    if short { Some(next) } else { None }
+    match list.at(place) {
+        Some(draw) => u64::from(draw.clock.period),
+        None => 1,
+    }
 }
 
 // The least common multiple of the periods, if it is within reach.
 fn cycle_of(list: &DrawList) -> Option<u64>
-    ensures { MatchOption result (Short list.now.places → ⊥) (λ m. Cycle list.now.places m) }
+    ensures { MatchOption result (Short list.now.places → ⊥) (Cycle list.now.places) }
 {
-    let mut cycle = 1;
-    for place in 0..PLACES {
-        cycle = longer(cycle, list.at(place))?;
-    }
-    Some(cycle)
+    let periods: [u64; 24] = array::from_fn(|place| period_at(list, place));
+    lcm_of(&periods).filter(|cycle| *cycle <= LONGEST_CYCLE)
 }
 
 // The tick of one cycle that measures most, and what draws at it.
@@ -46,17 +41,13 @@ fn walk_cycle<L: Load>(list: &DrawList, cycle: u64) -> (u32, u32)
     requires { Cycle list.now.places cycle }
     ensures { Found L.Load.kind list.now.places result.0 result.1 }
 {
-    let mut peak = 0;
-    let mut group = 0;
-    for tick in 0..cycle {
-        let drawn = drawing_at(list, tick);
-        let measure = load_of::<L>(list, drawn).measure();
-        if measure > peak {
-            peak = measure;
-            group = drawn;
-        }
-    }
-    (peak, group)
+    (0..cycle)
+        .map(|tick| {
+            let drawn = list.drawing_at(tick);
+            (list.load_of::<L>(drawn).measure(), drawn)
+        })
+        .max()
+        .unwrap_or((0, 0))
 }
 
 impl<L: Load> Finder<L> for Walk {

@@ -1,10 +1,10 @@
-use Rattle.std.proofs.Common.{◌+◌, take, subst, arith}
+use Rattle.std.proofs.Common.{Ok, ap, ◌∙◌, ◌+◌, take, subst, arith}
 use Rattle.std.proofs.ByRecursion.{All-get_or}
 use Rattle.std.proofs.lemmas.List.{take_all}
 use Rattle.congruence.specs.Clocks.{Valid}
 use Rattle.congruence.specs.FirstTicks.{First}
 use Rattle.congruence.specs.Merging.{Merges}
-use Rattle.congruence.proofs.Firsts.{merges_next, none_of_all, beyond_of_all, first_from_merged}
+use Rattle.congruence.proofs.Firsts.{merges_next, never_of_front, beyond_of_all, first_from_merged}
 use Rattle.congruence.proofs.Merges.{merged_none}
 use Rattle.congruence.proofs.common.first_common_tick.Goals as goal
 use Rattle.congruence.proofs.common.first_common_tick.Goals.{After-merge}
@@ -23,19 +23,21 @@ merge-requires c = record {
 one_more : (c : After-merge) → Merges (take (c.loop-clock.clock-index + 1) c.args.clocks.now) c.merge.result
 one_more c = merges_next _ _ _ _ c.loop-clock-test.true (c.merge.ensures _ c.loop-clock.invariant.0)
 
-pub returns-in-Missed : goal.returns-in-Missed
-returns-in-Missed c =
-    let none = subst (Merges _) c.in-Missed.is (one_more (goal.at.returns-in-Missed c).After-merge) in
-    (c.in_ok-check_clocks.ensures, none_of_all (c.loop-clock.clock-index + 1) _ none)
+pub returns-in_err-shared : goal.returns-in_err-shared
+returns-in_err-shared c =
+    let merged = one_more (goal.at.returns-in_err-shared c).After-merge in
+    never_of_front (c.loop-clock.clock-index + 1) _ _ _ c.in_ok-check_clocks.ensures (subst (Merges _) c.in_err-shared.was merged)
+    c.from_residual-in_err-shared.ensures.1
 
 pub past_the_bound-requires : goal.past_the_bound-requires
 past_the_bound-requires c =
     let valid = c.in_ok-check_clocks.ensures in
-    let long = subst (Merges _) c.in-TooLong.is (one_more (goal.at.past_the_bound-requires c).After-merge) in
+    let long = subst (Merges _) (c.in_ok-shared.was ∙ ap Ok c.in_default.is) (one_more (goal.at.past_the_bound-requires c).After-merge) in
     record { valid = valid; beyond = beyond_of_all (c.loop-clock.clock-index + 1) _ valid long }
 
 pub loop-clock-preserved : goal.loop-clock-preserved
-loop-clock-preserved c = subst (Merges _) c.in-Met.is (one_more (goal.at.loop-clock-preserved c).After-merge)
+loop-clock-preserved c =
+    subst (Merges _) (c.in_ok-shared.was ∙ ap Ok c.in-Some.is) (one_more (goal.at.loop-clock-preserved c).After-merge)
 
 pub returns : goal.returns
 returns c = (

@@ -1,7 +1,7 @@
 use Rattle.std.proofs.Common.{◌≡◌, ℕ, ◌≤◌, ◌<◌, List, Some, None, Option, MatchOption, sym, refl}
 use Rattle.table.specs.declared.slot.Slot.{Slot}
 use Rattle.planner.specs.Settings.{Counted, Factors, most_settings, product}
-use Rattle.planner.proofs.Factored.{factors_some}
+use Rattle.planner.proofs.Factored.{factors}
 use Rattle.planner.proofs.counting.settings.Goals as goal
 
 -- the product of the factors is the number of settings
@@ -9,8 +9,5 @@ counted : (slots : List Slot) (hs : List ℕ) → Factors slots hs → (r : Opti
 counted slots hs f None more = (product hs, (hs, f, refl), more)
 counted slots hs f (Some n) is = ((hs, f, sym is.0), is.1)
 
-pub product-requires : goal.product-requires
-product-requires c = factors_some c.args.table.now _ c.factors.ensures
-
 pub returns : goal.returns
-returns c = counted c.args.table.now.slots c.factors.result c.factors.ensures c.product.result c.product.ensures
+returns c = counted c.args.table.now.slots _ (factors c.args.table.now.slots c.berths.result c.berths.ensures) c.product.result c.product.ensures

@@ -1,37 +1,57 @@
-use Rattle.std.proofs.Common.{◌+◌, get_or, set, None, sym, ap, ◌∙◌, subst, arith}
-use Rattle.planner.proofs.Fits.{FittedTo, fitted_all, fitted_more, fitted_none, fitted_skip}
-use Rattle.planner.proofs.Placing.{place_waiting}
+use Rattle.std.proofs.Common.{◌+◌, ◌<◌, length, None, sym, ap, ◌∙◌, subst, arith}
+use Rattle.std.proofs.lemmas.List.{get_or_default}
+use Rattle.planner.specs.declared.timetable.Timetable.{Timetable}
+use Rattle.planner.specs.Berths.{factors_of}
+use Rattle.planner.specs.Choices.{Fitted}
+use Rattle.planner.specs.Plans.{waits_of}
+use Rattle.planner.proofs.Factored.{factors, is_berth, its_factor, none_booked}
+use Rattle.planner.proofs.Fits.{FittedTo, fitted_all, fitted_joins, fitted_more, fitted_none, fitted_skip}
+use Rattle.planner.proofs.Prefixes.{begun_none}
 use Rattle.planner.proofs.fitting.fit.Goals as goal
-use Rattle.planner.proofs.fitting.fit.Goals.{in-Booked, in_default}
+use Rattle.planner.proofs.fitting.fit.Goals.{in-Some, in_default}
 
-pub loop-socket-init : goal.loop-socket-init
-loop-socket-init g c = fitted_none g.L.Load.kind c.args.table.now c.running-list.result.places c.peak_of-peak.result c.running-list.ensures c.peak_of-peak.ensures
-
-pub best_wait-best-requires-clause-empty : goal.best_wait-best-requires-clause-empty
-best_wait-best-requires-clause-empty g c =
-    let n = c.loop-socket.socket in
-    ap (λ ps. get_or ps n None) c.loop-socket.invariant.list ∙ place_waiting c.args.table.now.slots n _ n c.in-Booked.booking (omega arith) (sym c.at.ensures ∙ c.in-Booked.is)
-
-pub loop-socket-preserved : goal.loop-socket-preserved
-loop-socket-preserved g c =
+pub loop-place-init : goal.loop-place-init
+loop-place-init g c =
     let K = g.L.Load.kind in
     let table = c.args.table.now in
-    let n = c.loop-socket.socket in
-    let old = c.loop-socket.invariant in
-    let places = c.loop-socket.list.places in
-    elim c.match-at.branch [
-      | in-Booked w ↦
-          let best = w.best_wait-best.result in
-          let more = fitted_more K table n c.loop-socket.waits places c.match-at.list.places c.loop-socket.peak w.in-Booked.booking best.wait best.peak (sym c.at.ensures ∙ w.in-Booked.is) w.best_wait-best.ensures (ap (λ l. l.places) w.list-is ∙ w.with_started-list.ensures) old in
-          subst (λ ws. FittedTo K table (n + 1) ws c.match-at.list.places c.match-at.peak) (sym w.waits-is) (subst (FittedTo K table (n + 1) (set c.loop-socket.waits n best.wait) c.match-at.list.places) (sym w.peak-is) more)
+    let hs = factors_of c.berths.result in
+    let prefix = c.new-prefix.ensures in
+    fitted_none K table hs c.new-prefix.result (begun_none K table hs c.new-prefix.result (ap (λ l. l.places) prefix.list ∙ c.running.ensures) prefix.is_peak prefix.waits)
+
+pub with_best-prefix-requires : goal.with_best-prefix-requires
+with_best-prefix-requires g c =
+    let table = c.args.table.now in
+    let xs = c.berths.result in
+    let n = c.loop-place.place-index in
+    let within : n < length xs = omega (arith, c.loop-place-test.true, c.berths.ensures.long, table.whole) in
+    let box = is_berth table.slots xs c.berths.ensures n (omega (arith, within, c.berths.ensures.long)) c.in-Some.berth (get_or_default xs n None c.place-item.result within ∙ c.in-Some.is) in
+    fitted_joins g.L.Load.kind table (factors_of xs) n c.loop-place.prefix c.loop-place.invariant c.in-Some.berth box
+
+pub loop-place-preserved : goal.loop-place-preserved
+loop-place-preserved g c =
+    let K = g.L.Load.kind in
+    let table = c.args.table.now in
+    let xs = c.berths.result in
+    let hs = factors_of xs in
+    let n = c.loop-place.place-index in
+    let within : n < length xs = omega (arith, c.loop-place-test.true, c.berths.ensures.long, table.whole) in
+    let low : n < length table.slots = omega (arith, within, c.berths.ensures.long) in
+    let here = get_or_default xs n None c.place-item.result within in
+    elim c.match-place.branch [
+      | in-Some w ↦
+          let x = w.in-Some.berth in
+          let holds = here ∙ w.in-Some.is in
+          subst (FittedTo K table hs (n + 1)) (sym w.prefix-is)
+          (fitted_more K table hs n c.loop-place.prefix c.loop-place.invariant x (is_berth table.slots xs c.berths.ensures n low x holds) (its_factor table.slots xs c.berths.ensures n low x holds) w.with_best-prefix.result w.with_best-prefix.ensures)
       | in_default w ↦
-          let skip = fitted_skip K table n c.loop-socket.waits places c.loop-socket.peak (λ b e. w.in_default.not-Booked b (c.at.ensures ∙ e)) old in
-          subst (λ ws. FittedTo K table (n + 1) ws c.match-at.list.places c.match-at.peak) (sym w.waits-is)
-          (subst (FittedTo K table (n + 1) c.loop-socket.waits c.match-at.list.places) (sym w.peak-is) (subst (λ l. FittedTo K table (n + 1) c.loop-socket.waits l.places c.loop-socket.peak) (sym w.list-is) skip))
+          subst (FittedTo K table hs (n + 1)) (sym w.prefix-is)
+          (fitted_skip K table hs n c.loop-place.prefix c.loop-place.invariant (omega (arith, low, table.whole)) (none_booked table.slots xs c.berths.ensures n low (here ∙ w.in_default.is)))
     ]
 
-pub returns : goal.returns
-returns g c = record {
-  fitted = fitted_all g.L.Load.kind c.args.table.now c.loop-socket.socket c.loop-socket.waits c.loop-socket.list.places c.loop-socket.peak (omega arith) (omega arith) c.loop-socket.invariant;
-  plain = c.loop-socket.invariant.plain;
-}
+pub returns-clause-fitted : goal.returns-clause-fitted
+returns-clause-fitted g c =
+    let K = g.L.Load.kind in
+    let table = c.args.table.now in
+    let xs = c.berths.result in
+    subst (λ (t : Timetable). Fitted K table.slots (waits_of t.waits) t.peak) (sym c.timetable.ensures)
+    (fitted_all K table (factors_of xs) g.met.L.Load.lawful (factors table.slots xs c.berths.ensures) c.loop-place.place-index c.loop-place.prefix c.loop-place-test.false c.loop-place.invariant)

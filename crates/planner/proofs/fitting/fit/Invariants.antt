@@ -1,5 +1,6 @@
+use Rattle.planner.specs.Berths.{factors_of}
 use Rattle.planner.proofs.Fits.{FittedTo}
 use Rattle.planner.proofs.fitting.fit.Given as goal
 
-abbrev pub invariant-loop-socket : goal.invariant-loop-socket
-invariant-loop-socket g l = FittedTo g.L.Load.kind l.table l.socket l.waits l.list.places l.peak
+abbrev pub invariant-loop-place : goal.invariant-loop-place
+invariant-loop-place g l = FittedTo g.L.Load.kind l.table (factors_of l.place-items) l.place-index l.prefix

@@ -3,5 +3,5 @@ use Rattle.draws.specs.Draws.{Reaches}
 use Rattle.planner.specs.Choices.{Choice, chosen}
 use Rattle.planner.proofs.planning.heaviest.Given as goal
 
-abbrev pub invariant-loop-socket : goal.invariant-loop-socket
-invariant-loop-socket g l = (v : ℕ → ℕ) → Choice l.table.slots v → Reaches g.L.Load.kind (chosen l.table.slots v) l.most
+abbrev pub invariant-loop-slot : goal.invariant-loop-slot
+invariant-loop-slot g l = (v : ℕ → ℕ) → Choice l.table.slots v → Reaches g.L.Load.kind (chosen l.table.slots v) l.most

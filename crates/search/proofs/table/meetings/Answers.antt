@@ -1,6 +1,9 @@
-use Rattle.std.proofs.Common.{arith}
-use Rattle.search.proofs.Tables.{tabled_more}
+use Rattle.std.proofs.Common.{rules}
+use Rattle.draws.proofs.Masks.{each_of_calls}
+use Rattle.search.specs.Visits.{Row}
 use Rattle.search.proofs.table.meetings.Goals as goal
 
-pub loop-s-preserved : goal.loop-s-preserved
-loop-s-preserved c = tabled_more c.args.list.now.places c.loop-s.s c.loop-s.table c.meeting_row.result (omega arith) c.loop-s.invariant c.meeting_row.ensures
+pub returns : goal.returns
+returns c =
+    let made = c.from_fn.ensures.items in
+    record { long = made.long; rows = each_of_calls (λ s. Row c.args.list.now.places s 24) _ _ _ _ 0 made (search rules) (λ s row call. search rules) }

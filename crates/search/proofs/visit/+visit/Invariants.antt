@@ -1,4 +1,4 @@
 use Rattle.search.proofs.visit.+visit.Given as goal
 
 abbrev pub decreases-visit : goal.decreases-visit
-decreases-visit g l = l.left
+decreases-visit g l = l.node.left
