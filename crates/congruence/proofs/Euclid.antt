@@ -1,8 +1,10 @@
 -- Bezout's identity without subtraction, and what it gives of divisors and multiples.
+use Rattle.std.proofs.lemmas.Nat.Gcd.{same_from_IsGcd}
 use Rattle.std.proofs.Common.{◌≡◌, ℕ, zero, suc, ◌+◌, ◌*◌, ◌/◌, ◌%◌, ◌<◌, ◌≤◌, [], ◌∷◌, sym, refl, ap, ◌∙◌, subst, mod-lt, arith}
 use Prim.Native.Nat.{◌∣◌}
-use native.Mathlib.Nat.{div-add-mod, div-eq_of_eq-mul_right, dvd-add, dvd-add_iff_right, dvd_antisymm, dvd-mod_iff, dvd-mul_left_of_dvd, dvd-mul_right, dvd-mul_right_of_dvd, dvd_refl, dvd-zero, mul-dvd-mul_left, mul-dvd-mul_right}
-use Rattle.congruence.specs.Divisors.{IsGcd, IsLcm}
+use native.Mathlib.Nat.{div-add-mod, div-eq_of_eq-mul_right, dvd-add, dvd-add_iff_right, dvd-mul_left_of_dvd, dvd-mul_right, dvd-mul_right_of_dvd, dvd_refl, dvd-zero, mul-dvd-mul_left, mul-dvd-mul_right}
+use Rattle.congruence.specs.Divisors.{IsLcm}
+use Rattle.std.specs.Int.{IsGcd}
 
 -- a and b over a common divisor g, and how g is made of them: a * x + b * y is g more than a * u + b * v
 pub record Euclid (a b : ℕ) : Type 0 where
@@ -71,14 +73,14 @@ module _ {a b : ℕ} (e : Euclid a b) where
       )
 
   pub euclid_gcd : IsGcd a b e.g
-  euclid_gcd = record {
-    left = subst (λ n. e.g ∣ n) (sym e.left) (dvd-mul_right e.g e.over_a);
-    right = subst (λ n. e.g ∣ n) (sym e.right) (dvd-mul_right e.g e.over_b);
-    greatest = λ d da db.
+  euclid_gcd = (
+    subst (λ n. e.g ∣ n) (sym e.left) (dvd-mul_right e.g e.over_a),
+    subst (λ n. e.g ∣ n) (sym e.right) (dvd-mul_right e.g e.over_b),
+    λ d da db.
         let more : d ∣ a * e.u + b * e.v = dvd-add d (dvd-mul_right_of_dvd d da e.u) (dvd-mul_right_of_dvd d db e.v) in
         let whole : d ∣ a * e.x + b * e.y = dvd-add d (dvd-mul_right_of_dvd d da e.x) (dvd-mul_right_of_dvd d db e.y) in
-        (dvd-add_iff_right d more).1 (subst (λ n. d ∣ n) bezout whole);
-  }
+        (dvd-add_iff_right d more).1 (subst (λ n. d ∣ n) bezout whole),
+  )
 
   -- over_a * b is over_b * a
   over : e.over_a * b ≡ a * e.over_b
@@ -100,24 +102,6 @@ module _ {a b : ℕ} (e : Euclid a b) where
     least = λ k ks. least_multiple k ks.0 ks.1.0;
   }
 
-pub gcd_unique : {a b g h : ℕ} → IsGcd a b g → IsGcd a b h → g ≡ h
-gcd_unique {a} {b} {g} {h} s t = dvd_antisymm (t.greatest g s.left s.right) (s.greatest h t.left t.right)
-
-pub gcd_zero : (a b : ℕ) → b ≡ 0 → IsGcd a b a
-gcd_zero a b e = record {
-  left = dvd_refl a;
-  right = subst (λ n. a ∣ n) (sym e) (dvd-zero a);
-  greatest = λ d da db. da;
-}
-
--- one step of falling remainders
-pub gcd_more : (a b g : ℕ) → IsGcd b (a % b) g → IsGcd a b g
-gcd_more a b g s = record {
-  left = (dvd-mod_iff g s.left).0 s.right;
-  right = s.left;
-  greatest = λ d da db. s.greatest d db ((dvd-mod_iff d db).1 da);
-}
-
 pub lcm_zero : (a b : ℕ) → a ≡ 0 → IsLcm (a ∷ (b ∷ [])) 0
 lcm_zero a b e = record { multiple = (dvd-zero a, (dvd-zero b, tt)); least = λ k ks. subst (λ n. n ∣ k) e ks.0 }
 
@@ -125,6 +109,6 @@ lcm_zero a b e = record { multiple = (dvd-zero a, (dvd-zero b, tt)); least = λ 
 pub gcd_lcm : (a b g : ℕ) → IsGcd a b g → 0 < g → IsLcm (a ∷ (b ∷ [])) (a / g * b)
 gcd_lcm a b g s some =
     let e = euclid a b in
-    let same : e.g ≡ g = gcd_unique (euclid_gcd e) s in
+    let same : e.g ≡ g = same_from_IsGcd a b e.g g (euclid_gcd e) s in
     let part : a / g ≡ e.over_a = div-eq_of_eq-mul_right some (e.left ∙ ap (λ z. z * e.over_a) same) in
     subst (λ n. IsLcm (a ∷ (b ∷ [])) (n * b)) (sym part) (euclid_lcm e)

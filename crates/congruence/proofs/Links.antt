@@ -1,13 +1,14 @@
 -- Numbers that agree modulo the greatest common divisor of two others, and what joins such agreements.
+use Rattle.std.proofs.lemmas.Nat.Gcd.{same_from_IsGcd}
 use Rattle.std.proofs.Common.{◌≡◌, ℕ, zero, suc, ◌+◌, ◌*◌, ◌/◌, ◌%◌, ◌<◌, List, [], ◌∷◌, sym, refl, ap, ◌∙◌, subst, ⊎_elim, arith}
 use Prim.Native.Nat.{◌∣◌}
 use native.Mathlib.Nat.{add-mul-mod_self_left, dvd-add, dvd-mul_right_of_dvd, dvd_refl, dvd-sub, mul-div_cancel'}
 use Rattle.std.specs.List.{AllByRecursion}
 use Rattle.std.proofs.ByRecursion.{All-weaker}
 use Rattle.std.proofs.str.Laws.{order}
-use Rattle.congruence.specs.Divisors.{IsGcd}
+use Rattle.std.specs.Int.{IsGcd}
 use Rattle.congruence.specs.Clocks.{apart}
-use Rattle.congruence.proofs.Euclid.{Euclid, euclid, bezout, euclid_gcd, gcd_unique}
+use Rattle.congruence.proofs.Euclid.{Euclid, euclid, bezout, euclid_gcd}
 
 -- u and v agree modulo every common divisor of a and b
 pub record Link (a b u v : ℕ) : Type 0 where
@@ -43,7 +44,7 @@ link_above v k e = record {
 pub link_from_gcd : {a b g u v : ℕ} → IsGcd a b g → g ∣ apart u v → Link a b u v
 link_from_gcd {a} {b} {g} {u} {v} s d =
     let e = euclid a b in
-    let same : g ≡ e.g = gcd_unique s (euclid_gcd e) in
+    let same : g ≡ e.g = same_from_IsGcd _ _ _ _ s (euclid_gcd e) in
     let k = apart u v / g in
     let times : e.g * k ≡ apart u v = ap (λ z. z * k) (sym same) ∙ mul-div_cancel' g d in
     ⊎_elim

@@ -5,7 +5,7 @@ use native.Mathlib.Nat.{add-mul-mod_self_left, dvd-mul_right_of_dvd, mod-add-div
 use Rattle.std.specs.List.{AllByRecursion}
 use Rattle.std.proofs.ByRecursion.{All-weaker}
 use Rattle.congruence.specs.declared.clocks.Clock.{Clock}
-use Rattle.congruence.specs.Divisors.{IsGcd}
+use Rattle.std.specs.Int.{IsGcd}
 use Rattle.congruence.specs.Clocks.{Valid, Due, Meet, EachTwoMeet, periods, MeetByGcd, MeetByPairs, Slide}
 use Rattle.congruence.proofs.Euclid.{euclid, euclid_gcd}
 use Rattle.congruence.proofs.Links.{Link, link_from, link_from_gcd, gcd_from_link, link_move, common}
@@ -36,7 +36,7 @@ link_meet c d vc vd l =
 
 pub meet_by_gcd : MeetByGcd
 meet_by_gcd c d g vc vd s = (
-  λ m. gcd_from_link g s.left s.right (due_link m.0 c d m.1.0 m.1.1.0),
+  λ m. gcd_from_link g s.0 s.1 (due_link m.0 c d m.1.0 m.1.1.0),
   λ h. link_meet c d vc vd (link_from_gcd s h),
 )
 

@@ -5,14 +5,10 @@ use native.Mathlib.Nat.{div-mul_cancel}
 use denote.Param.Members.{Mut}
 use denote.Ref.{Bor}
 use Rattle.std.specs.Fn.{CalledAt}
-use Rattle.std.specs.Option.{option_map}
+use Rattle.std.proofs.lemmas.Iterator.Adapters.{option_map_id}
 use Rattle.std.specs.Iterator.Runs.{CallKeepsClosure, EndsAtFirstPassing, IsStepByRun, ItemsCountUp, NoItemPasses, Run}
 use Rattle.std.proofs.lemmas.Bool.{cases_lt}
 use Rattle.congruence.proofs.Merges.{step_within}
-
-same_some : (o : Option ℕ) (n : ℕ) → option_map (λ y. y) o ≡ Some n → o ≡ Some n
-same_some (Some x) n e = e
-same_some None n e = absurd cc
 
 lt_of_times : (i n step : ℕ) → 0 < step → i * step < n * step → i < n
 lt_of_times i n step some less = ⊎_elim (λ low. low) (λ past. absurd (let le : n * step ≤ i * step = mul-le-mul_right step past in omega arith)) (cases_lt i n)
@@ -24,7 +20,7 @@ module _ {S T : Type 0} {steps : S → Option ℕ → S → Type 0} {source : T 
   all_tried ended k h =
       let inside = step_within k step next whole h in
       let long : q.len ≡ next - tick = up.1 (by.0 ∙ ended) in
-      by.4 k ∙ same_some _ _ (up.3 (k * step) (omega arith))
+      by.4 k ∙ (sym (option_map_id _) ∙ up.3 (k * step) (omega arith))
 
   -- and what is tried is one of them
   one_tried : (i x : ℕ) → p.at i ≡ Some x → (i < next / step) × (x ≡ tick + i * step)

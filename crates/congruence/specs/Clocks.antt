@@ -3,7 +3,7 @@ use Rattle.std.specs.Prelude.{◌≡◌, ℕ, ◌+◌, ◌-◌, ◌%◌, ◌<◌
 use Rattle.std.specs.Int.{◌∣◌}
 use Rattle.std.specs.List.{AllByRecursion}
 use Rattle.congruence.specs.declared.clocks.Clock.{Clock}
-use Rattle.congruence.specs.Divisors.{IsGcd}
+use Rattle.std.specs.Int.{IsGcd}
 
 -- the clocks that a box can have: a period of 1 to 1,000 ticks, and a wait below it
 pub record Valid (c : Clock) : Type 0 where

@@ -1,12 +1,7 @@
--- Greatest common divisors and least common multiples, by divisibility alone.
+-- Least common multiples, by divisibility alone.
 use Rattle.std.specs.Prelude.{ℕ, ◌<◌, ◌≤◌, List}
 use Rattle.std.specs.Int.{◌∣◌}
 use Rattle.std.specs.List.{AllByRecursion}
-
-pub record IsGcd (a b g : ℕ) : Type 0 where
-  pub left : g ∣ a
-  pub right : g ∣ b
-  pub greatest : (d : ℕ) → d ∣ a → d ∣ b → d ∣ g
 
 -- m is the least common multiple of the numbers of a list; of no number it is 1
 pub record IsLcm (ns : List ℕ) (m : ℕ) : Type 0 where

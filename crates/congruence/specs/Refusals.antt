@@ -8,7 +8,7 @@ pub record Check : Type 0 where
   pub passes : Bool
   pub refusal : Refusal
 
--- the refusal of the first check that fails
+-- Ok where every check passes, and else the refusal of the first that fails
 abbrev pub verdict : List Check → Result (Unit {0}) Refusal
 verdict [] = Ok tt
 verdict (c ∷ cs) = if c.passes then verdict cs else Err c.refusal

@@ -27,6 +27,7 @@ pub enum NoCommonTick {
     Never,
 }
 
+// Written out, since a derived `From` doesn't say what it makes.
 impl From<RefusedClock> for NoCommonTick {
     ghost from_gives = { λ e r. r ≡ Refused e };
 
@@ -48,11 +49,11 @@ fn merge(so_far: Shared, clock: Clock) -> Result<Option<Shared>, NoCommonTick>
     let Some(next) = lcm(so_far.step, period) else {
         return Ok(None);
     };
-    let mut tried = (so_far.tick..next).step_by(so_far.step as usize);
-    match tried.find(|tick| tick % period == wait) {
-        Some(tick) => Ok(Some(Shared { tick, step: next })),
-        None => Err(NoCommonTick::Never),
-    }
+    let tick = (so_far.tick..next)
+        .step_by(so_far.step as usize)
+        .find(|tick| tick % period == wait)
+        .ok_or(NoCommonTick::Never)?;
+    Ok(Some(Shared { tick, step: next }))
 }
 
 // The first tick at which all of them draw, that of no clock being 0; None where some tick has them all draw, but

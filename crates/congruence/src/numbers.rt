@@ -1,6 +1,7 @@
 // The greatest common divisor, and the least common multiple up to a bound.
 ghost use Rattle.std.specs.Prelude.{ℕ, ◌<◌, ◌≤◌, [], ◌∷◌, MatchOption};
-ghost use Rattle.congruence.specs.Divisors.{IsGcd, LcmWithin, LcmBeyond, bound};
+ghost use Rattle.congruence.specs.Divisors.{LcmWithin, LcmBeyond, bound};
+ghost use Rattle.std.specs.Int.{IsGcd};
 
 // The largest multiple that is told: 10^18.
 pub const LCM_BOUND: u64 = 1_000_000_000_000_000_000;

@@ -1,4 +1,5 @@
 -- A set of places draws together at some tick exactly when each two of it meet.
+use Rattle.std.proofs.lemmas.Option.{none-some, same_Some}
 use Rattle.std.proofs.Common.{◌≡◌, ℕ, zero, suc, ◌+◌, Bool, true, false, cond, List, [], ◌∷◌, get_or, Some, None, Option, sym, refl, subst, arith}
 use Rattle.std.specs.List.{AllByRecursion}
 use Rattle.std.proofs.lemmas.Bool.{eq-eqb, eqb-true, false≢true}
@@ -8,12 +9,6 @@ use Rattle.congruence.proofs.Meetings.{tick_from_pairs}
 use Rattle.draws.specs.declared.draw.Draw.{Draw}
 use Rattle.draws.specs.Draws.{Places, drawing, due}
 use Rattle.draws.specs.Meetings.{MeetAt, EachTwo, Together}
-
-pub none_some : {d : Draw} → ◌≡◌ {A = Option Draw} None (Some d) → ⊥
-none_some e = let z : ◌≡◌ {A = ℕ} 0 1 = cc in omega arith
-
-pub some_same : {c d : Draw} → ◌≡◌ {A = Option Draw} (Some c) (Some d) → c ≡ d
-some_same e = cc
 
 -- the clocks of the places that a set picks, the first of them place s
 picks : (ℕ → Bool) → ℕ → Places → List Clock
@@ -53,11 +48,11 @@ module _ (P : Clock → Type 0) (h : ℕ → Bool) where
   -- and back
   all_picked : (s : ℕ) (ps : Places) → AllByRecursion P (picks h s ps) → Each s ps
   unfolding Each picks
-  all_picked s [] all j d e picked = absurd (none_some e)
-  all_picked s (None ∷ ps) all zero d e picked = absurd (none_some e)
+  all_picked s [] all j d e picked = absurd (none-some _ e)
+  all_picked s (None ∷ ps) all zero d e picked = absurd (none-some _ e)
   all_picked s (None ∷ ps) all (suc j) d e picked = all_picked (suc s) ps all j d e (subst (λ i. h i ≡ true) (omega arith) picked)
   all_picked s (Some c ∷ ps) all zero d e picked =
-      subst (λ k. P k.clock) (some_same e) (cond_head (h s) c.clock (picks h (suc s) ps) (subst (λ i. h i ≡ true) (omega arith) picked) all)
+      subst (λ k. P k.clock) (same_Some _ _ e) (cond_head (h s) c.clock (picks h (suc s) ps) (subst (λ i. h i ≡ true) (omega arith) picked) all)
   all_picked s (Some c ∷ ps) all (suc j) d e picked =
       all_picked (suc s) ps (cond_tail (h s) c.clock (picks h (suc s) ps) all) j d e (subst (λ i. h i ≡ true) (omega arith) picked)
 
@@ -85,7 +80,7 @@ AllValid ps = (s : ℕ) (d : Draw) → get_or ps s None ≡ Some d → Valid d.c
 meet_at : (p q : Option Draw) (d e : Draw) → p ≡ Some d → q ≡ Some e → MeetAt p q → Meet (d.clock ∷ (e.clock ∷ []))
 meet_at None q d e x y m = absurd m
 meet_at (Some a) None d e x y m = absurd m
-meet_at (Some a) (Some b) d e x y m = subst (λ k. Meet (k.clock ∷ (e.clock ∷ []))) (some_same x) (subst (λ k. Meet (a.clock ∷ (k.clock ∷ []))) (some_same y) m)
+meet_at (Some a) (Some b) d e x y m = subst (λ k. Meet (k.clock ∷ (e.clock ∷ []))) (same_Some _ _ x) (subst (λ k. Meet (a.clock ∷ (k.clock ∷ []))) (same_Some _ _ y) m)
 
 due_some : (t : ℕ) (p : Option Draw) → MeetAt p p → ((d : Draw) → p ≡ Some d → Due t d.clock) → due t p ≡ true
 due_some t None m h = absurd m

@@ -1,10 +1,11 @@
 -- The factor of a period beside the boxes of a list.
+use Rattle.std.proofs.lemmas.Nat.Gcd.{same_from_IsGcd}
 use Rattle.std.proofs.Common.{◌≡◌, ℕ, ◌<◌, ◌≤◌, List, [], ◌∷◌, length, get_or, None, subst}
 use Prim.Native.Nat.{◌∣◌}
 use native.Mathlib.Nat.{pos_of_dvd_of_pos, le_of_dvd}
 use Rattle.std.specs.List.{AllByRecursion}
-use Rattle.congruence.specs.Divisors.{IsGcd, IsLcm}
-use Rattle.congruence.proofs.Euclid.{gcd_unique}
+use Rattle.congruence.specs.Divisors.{IsLcm}
+use Rattle.std.specs.Int.{IsGcd}
 use Rattle.draws.specs.declared.draw.Draw.{Draw}
 use Rattle.draws.specs.Draws.{Places, periods_of}
 use Rattle.draws.proofs.Lcms.{StandsFor, divides_lcm, lcm_divides}
@@ -20,7 +21,7 @@ factor_of_gcds ps p gs h same at l =
     record {
       multiple = periods_all (λ q. (g : ℕ) → IsGcd p q g → g ∣ h) ps (λ s d e g is.
           let n = divides_lcm Of ps gs h same at l s d e in
-          subst (λ k. k ∣ h) (gcd_unique n.1 is) n.2);
+          subst (λ k. k ∣ h) (same_from_IsGcd _ _ _ _ n.1 is) n.2);
       least = λ k all. lcm_divides Of ps gs h same at l k (λ s d n e is. periods_at (λ q. (g : ℕ) → IsGcd p q g → g ∣ k) ps all s d e n is);
     }
 
@@ -29,7 +30,7 @@ all_any [] each = tt
 all_any (q ∷ qs) each = (each q, all_any qs each)
 
 pub factor_divides : {qs : List ℕ} {p h : ℕ} → Factor qs p h → h ∣ p
-factor_divides {qs} {p} f = f.least p (all_any qs (λ q g is. is.left))
+factor_divides {qs} {p} f = f.least p (all_any qs (λ q g is. is.0))
 
 pub factor_some : {qs : List ℕ} {p h : ℕ} → 0 < p → Factor qs p h → 0 < h
 factor_some some f = pos_of_dvd_of_pos (factor_divides f) some

@@ -1,4 +1,5 @@
 -- The least common multiple of numbers that stand for the places of a list, 1 for an empty place.
+use Rattle.std.proofs.lemmas.Option.{none-some}
 use Rattle.std.proofs.Common.{◌≡◌, ℕ, ◌<◌, List, length, get_or, Option, Some, None, sym, refl, ◌∙◌, subst, ⊎_elim, arith}
 use Prim.Native.Nat.{◌∣◌}
 use native.Mathlib.Nat.{one-dvd}
@@ -8,7 +9,6 @@ use Rattle.std.proofs.lemmas.Bool.{cases_lt}
 use Rattle.congruence.specs.Divisors.{IsLcm}
 use Rattle.draws.specs.declared.draw.Draw.{Draw}
 use Rattle.draws.specs.Draws.{Places, periods_of}
-use Rattle.draws.proofs.Cliques.{none_some}
 use Rattle.draws.proofs.Periods.{periods_all, periods_at}
 
 -- what a place stands for: a number of which Of holds, or 1
@@ -19,7 +19,7 @@ StandsFor Of (Some d) n = Of d n
 module _ (Of : Draw → ℕ → Type 0) (ps : Places) (ns : List ℕ) (m : ℕ) (same : length ns ≡ length ps)
     (at : (s : ℕ) → s < length ps → StandsFor Of (get_or ps s None) (get_or ns s 0)) (l : IsLcm ns m) where
   some_within : (s : ℕ) (d : Draw) → get_or ps s None ≡ Some d → s < length ps
-  some_within s d e = ⊎_elim (λ low. low) (λ past. absurd (none_some (sym (get_or_past ps s None past) ∙ e))) (cases_lt s (length ps))
+  some_within s d e = ⊎_elim (λ low. low) (λ past. absurd (none-some _ (sym (get_or_past ps s None past) ∙ e))) (cases_lt s (length ps))
 
   -- each box has its number, which divides the multiple
   pub divides_lcm : (s : ℕ) (d : Draw) → get_or ps s None ≡ Some d → (n : ℕ) × Of d n × (n ∣ m)

@@ -1,7 +1,8 @@
 -- What the ranges of a list give.
-use Rattle.std.proofs.Common.{◌≡◌, ℕ, ◌<◌, Bool, true, false, ◌&&◌, [], ◌∷◌, ltb, leb, get_or, is_ok, Some, None, Ok, sym, refl, ap, ◌∙◌, ⊎_elim, arith}
+use Rattle.std.proofs.lemmas.Option.{none-some}
+use Rattle.std.proofs.Common.{◌≡◌, ℕ, ◌<◌, true, ◌&&◌, ltb, leb, get_or, Some, None, Ok, sym, ap, ◌∙◌, ⊎_elim, arith}
 use Rattle.std.proofs.lemmas.List.{get_or_past}
-use Rattle.std.proofs.lemmas.Bool.{and_from, and_parts, cases_lt, cond-true, false≢true, le-leb, leb-true, lt-ltb, ltb-true}
+use Rattle.std.proofs.lemmas.Bool.{and_from, and_parts, cases_lt, cond-true, le-leb, leb-true, lt-ltb, ltb-true}
 use Rattle.congruence.proofs.Verdicts.{all_pass}
 use Rattle.congruence.specs.Clocks.{Valid}
 use Rattle.draws.specs.declared.draw.Draw.{Draw}
@@ -9,7 +10,7 @@ use Rattle.draws.specs.declared.list.DrawList.{DrawList}
 use Rattle.load.specs.Ratings.{in_range}
 use Rattle.draws.specs.Checks.{draw_checks, draw_verdict, sound}
 use Rattle.draws.specs.Lists.{place_verdict}
-use Rattle.draws.proofs.Cliques.{AllValid, none_some}
+use Rattle.draws.proofs.Cliques.{AllValid}
 
 checks : (d : Draw) → sound (Some d) ≡ true → ((ltb 0 d.clock.period && leb d.clock.period 1000) ≡ true) × (ltb d.clock.wait d.clock.period ≡ true) × (in_range d.rating ≡ true)
 checks d e = let all = all_pass (draw_checks d) e in (all.0, all.1.0, all.1.1.0)
@@ -34,7 +35,7 @@ held : (list : DrawList) (s : ℕ) (d : Draw) → get_or list.places s None ≡ 
 held list s d e =
     ⊎_elim
     (λ low. ap sound (sym e) ∙ list.ranges s low)
-    (λ past. absurd (none_some (sym (get_or_past list.places s None (omega (arith, list.whole))) ∙ e)))
+    (λ past. absurd (none-some _ (sym (get_or_past list.places s None (omega (arith, list.whole))) ∙ e)))
     (cases_lt s 24)
 
 pub all_valid : (list : DrawList) → AllValid list.places

@@ -1,10 +1,8 @@
 -- The worked examples, as one list.
 use Rattle.std.specs.Prelude.{◌≡◌, ℕ, ◌≤◌, List, [], ◌∷◌, Some, Ok, Err, Option, Result}
-use Rattle.std.specs.List.{AllByRecursion}
 use Rattle.congruence.specs.declared.clocks.Clock.{Clock}
 use Rattle.congruence.specs.declared.common.NoCommonTick.{NoCommonTick}
 use Rattle.congruence.specs.declared.common.NoCommonTick.TheVariants.{Never}
-use Rattle.congruence.specs.Clocks.{Valid}
 use Rattle.congruence.specs.FirstTicks.{Answer}
 use Rattle.load.specs.Kinds.{Kind}
 use Rattle.load.specs.Amps.{amps_kind}

@@ -27,10 +27,7 @@ pub trait FullFinder<L: Load>: Finder<L> {
         ensures before { (ps : Places) → Self.reach self.old ps }
         ensures after { (ps : Places) → Self.reach self.new ps }
     {
-        match self.find(list) {
-            Ok(found) => found,
-            Err(_) => unreachable(),
-        }
+        self.find(list).unwrap()
     }
 
     ghost full: { (finder : Self) (ps : Places) → Self.reach finder ps };

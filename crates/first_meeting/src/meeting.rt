@@ -5,7 +5,7 @@ ghost use Rattle.first_meeting.specs.declared.meeting.Fault.TheVariants.{Memory}
 ghost use Rattle.first_meeting.specs.Meetings.{clock_said, box_fault, Meeting, FromRows};
 
 use crate::record::meeting_record;
-use congruence::{Clock, Refusal, check_clocks, first_common_tick};
+use congruence::{Clock, NoCommonTick, Refusal, first_common_tick};
 use rows::{Layout, Row, RowsFault};
 use std::alloc::{AllocError, Global};
 use std::fmt;
@@ -125,8 +125,9 @@ pub fn first_meeting(heap: Global, text: &str) -> Result<String, Fault>
 {
     let rows = BOXES.read(heap, text)?;
     let clocks = clocks_of(heap, &rows)?;
-    if let Err(refused) = check_clocks(&clocks) {
+    let first = first_common_tick(&clocks);
+    if let Err(NoCommonTick::Refused(refused)) = first {
         return Err(bad_box(&rows[refused.place], refused.refusal));
     }
-    Ok(meeting_record(heap, &clocks, first_common_tick(&clocks))?)
+    Ok(meeting_record(heap, &clocks, first)?)
 }

@@ -6,6 +6,7 @@ ghost use Rattle.first_meeting.specs.Records.{box_line, box_lines, pair_line, cy
 use congruence::{Clock, NoCommonTick, lcm_of, meets};
 use std::alloc::{AllocError, Global};
 
+// Each of these says what its line adds to the text: a name for that would be no plainer.
 fn write_box(out: &mut String, n: usize, clock: Clock) -> Result<(), AllocError>
     ensures { OnOk result (string_bytes out.new ≡ string_bytes out.old ++ box_line n clock) }
 {

@@ -5,6 +5,7 @@
 mod lists;
 mod timing;
 
+use draws::DrawList;
 use lists::Random;
 use programs::status_of;
 use std::env::{self, Env};
@@ -36,18 +37,23 @@ fn report(rt: &impl Print, what: &str, timing: Timing, times: bool) -> io::Resul
     Ok(())
 }
 
+// How long the search took on so many made lists.
+fn measured<F: FnMut() -> DrawList>(rt: &impl Clock, lists: u32, mut make: F) -> io::Result<Timing>
+    requires { F.IsAlwaysCallable make }
+{
+    let mut timing = Timing::default();
+    for _ in 0..lists {
+        timing.measure(rt, &make())?;
+    }
+    Ok(timing)
+}
+
 fn run(rt: &(impl Env + Alloc + Clock + Print)) -> anyhow::Result<()> {
     let times = env::args(rt)?.count() > 1;
     let mut random = Random::new(SEED);
-    let mut timing = Timing::default();
-    for _ in 0..RANDOM_LISTS {
-        timing.measure(rt, &random.random_list())?;
-    }
+    let timing = measured(rt, RANDOM_LISTS, || random.random_list())?;
     report(rt, "random", timing, times)?;
-    let mut timing = Timing::default();
-    for _ in 0..COMPOSITE_LISTS {
-        timing.measure(rt, &random.composite_list())?;
-    }
+    let timing = measured(rt, COMPOSITE_LISTS, || random.composite_list())?;
     report(rt, "composite", timing, times)?;
     Ok(())
 }

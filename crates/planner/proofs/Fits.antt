@@ -1,4 +1,5 @@
 -- The best wait of one box, and the boxes fitted so far.
+use Rattle.std.proofs.lemmas.Option.{none-some, same_Some}
 use Rattle.std.proofs.Common.{◌≡◌, ℕ, suc, ◌+◌, ◌%◌, ◌<◌, ◌≤◌, max, cond, eqb, List, length, get_or, set, Some, None, Option, sym, refl, ap, ◌∙◌, subst, ⊎_elim, mod-lt, arith}
 use Prim.Native.Nat.{◌∣◌}
 use borrow.Author.Count.{below_more}
@@ -9,7 +10,7 @@ use Rattle.load.specs.Kinds.{Kind, Laws}
 use Rattle.draws.specs.declared.draw.Draw.{Draw}
 use Rattle.draws.specs.Draws.{Passes, Peak, Places, Reaches, periods_of}
 use Rattle.draws.specs.Factors.{Factor}
-use Rattle.draws.proofs.Cliques.{AllValid, none_some, some_same}
+use Rattle.draws.proofs.Cliques.{AllValid}
 use Rattle.draws.proofs.Factoring.{factor_some}
 use Rattle.draws.proofs.Peaks.{reaches_alone, reaches_more, reaches_peak}
 use Rattle.draws.proofs.Periods.{periods_at}
@@ -42,7 +43,7 @@ module _ {L : Type 0} (K : Kind L) (laws : Laws K) (ps : Places) (s : ℕ) (b : 
   unfolding with_box
   with_valid x low j d e =
       ⊎_elim
-      (λ here. subst (λ k. Valid k.clock) (some_same (sym (get_or-set_same ps s (Some (started b x)) None within) ∙ ap (λ i. get_or (set ps s (Some (started b x))) i None) (sym here) ∙ e)) (started_valid fits low))
+      (λ here. subst (λ k. Valid k.clock) (same_Some _ _ (sym (get_or-set_same ps s (Some (started b x)) None within) ∙ ap (λ i. get_or (set ps s (Some (started b x))) i None) (sym here) ∙ e)) (started_valid fits low))
       (λ other. valid j d (sym (get_or-set_other ps s j (Some (started b x)) None other) ∙ e))
       (cases_eq j s)
 
@@ -54,7 +55,7 @@ module _ {L : Type 0} (K : Kind L) (laws : Laws K) (ps : Places) (s : ℕ) (b : 
   pub with_reaches_list : get_or ps s None ≡ None → (peak : ℕ) → Peak K ps peak → (x : ℕ) → Reaches K (set ps s (Some (started b x))) peak
   with_reaches_list empty peak is_peak x =
       reaches_more K laws ps (set ps s (Some (started b x))) peak
-      (λ j d e. ⊎_elim (λ here. absurd (none_some (sym empty ∙ ap (λ i. get_or ps i None) (sym here) ∙ e))) (λ other. get_or-set_other ps s j (Some (started b x)) None other ∙ e) (cases_eq j s))
+      (λ j d e. ⊎_elim (λ here. absurd (none-some _ (sym empty ∙ ap (λ i. get_or ps i None) (sym here) ∙ e))) (λ other. get_or-set_other ps s j (Some (started b x)) None other ∙ e) (cases_eq j s))
       (sym (length-set ps s (Some (started b x)))) (omega (arith, length-set ps s (Some (started b x)))) (reaches_peak K peak (omega arith) is_peak)
 
   -- a wait and its remainder by the factor

@@ -1,10 +1,11 @@
 -- The places of a table with some of its booked boxes started.
+use Rattle.std.proofs.lemmas.Option.{none-some, same_Some}
 use Rattle.std.proofs.Common.{◌≡◌, ℕ, suc, ◌+◌, ◌<◌, ◌≤◌, true, false, if◌then◌else◌, nat_lt, List, [], ◌∷◌, length, get_or, set, Some, None, sym, refl, ap, ◌∙◌, subst, ⊎_elim, arith}
 use Rattle.std.proofs.lemmas.List.{ext_get_or, get_or_past, get_or-set_other, get_or-set_same, length-set}
 use Rattle.std.proofs.lemmas.Bool.{cases_eq, cases_lt, cond-false, cond-true, le-ltb, lt-ltb}
 use Rattle.congruence.specs.Clocks.{Valid}
 use Rattle.draws.specs.Draws.{periods_of}
-use Rattle.draws.proofs.Cliques.{AllValid, none_some, some_same}
+use Rattle.draws.proofs.Cliques.{AllValid}
 use Rattle.draws.proofs.Peaks.{Among}
 use Rattle.table.specs.declared.slot.Booking.{Booking}
 use Rattle.table.specs.declared.slot.Slot.{Slot}
@@ -102,7 +103,7 @@ module _ (slots : List Slot) where
       go (Booked b) is h =
           ⊎_elim
           (λ low. ap (place_of m w s) is ∙ started_at m w s b (omega arith) ∙ ap (λ k. Some (started b k)) (sym (agree s b low is)) ∙ sym (started_at n v s b low) ∙ sym (ap (place_of n v s) is) ∙ h)
-          (λ past. absurd (none_some (sym (waiting_at n v s b past) ∙ sym (ap (place_of n v s) is) ∙ h)))
+          (λ past. absurd (none-some _ (sym (waiting_at n v s b past) ∙ sym (ap (place_of n v s) is) ∙ h)))
           (cases_lt s n)
 
 -- the waits change no period
@@ -125,10 +126,10 @@ pub places_valid : (table : Table) (n : ℕ) (w : ℕ → ℕ) → ((s : ℕ) (b
 places_valid table n w below s d e = go (get_or table.slots s Empty) refl (sym (get_or_places n w table.slots s) ∙ e)
   where
     go : (x : Slot) → get_or table.slots s Empty ≡ x → place_of n w s (get_or table.slots s Empty) ≡ Some d → Valid d.clock
-    go Empty is h = absurd (none_some (sym (ap (place_of n w s) is) ∙ h))
-    go (Running c) is h = subst (λ k. Valid k.clock) (some_same (sym (ap (place_of n w s) is) ∙ h)) (running_valid table s c is)
+    go Empty is h = absurd (none-some _ (sym (ap (place_of n w s) is) ∙ h))
+    go (Running c) is h = subst (λ k. Valid k.clock) (same_Some _ _ (sym (ap (place_of n w s) is) ∙ h)) (running_valid table s c is)
     go (Booked b) is h =
         ⊎_elim
-        (λ low. subst (λ k. Valid k.clock) (some_same (sym (started_at n w s b low) ∙ sym (ap (place_of n w s) is) ∙ h)) (started_valid (bookable table s b is) (below s b low is)))
-        (λ past. absurd (none_some (sym (waiting_at n w s b past) ∙ sym (ap (place_of n w s) is) ∙ h)))
+        (λ low. subst (λ k. Valid k.clock) (same_Some _ _ (sym (started_at n w s b low) ∙ sym (ap (place_of n w s) is) ∙ h)) (started_valid (bookable table s b is) (below s b low is)))
+        (λ past. absurd (none-some _ (sym (waiting_at n w s b past) ∙ sym (ap (place_of n w s) is) ∙ h)))
         (cases_lt s n)

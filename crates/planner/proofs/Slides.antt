@@ -1,4 +1,6 @@
 -- A list of boxes all of whose clocks are moved by the same number of ticks draws the same, that much later.
+use Rattle.std.proofs.lemmas.Nat.Gcd.{IsGcd-swap}
+use Rattle.std.proofs.lemmas.Option.{none-some, same_Some}
 use Rattle.std.proofs.Common.{◌≡◌, ℕ, zero, suc, ◌+◌, ◌-◌, ◌*◌, ◌/◌, ◌%◌, ◌<◌, ◌≤◌, eqb, List, [], ◌∷◌, map, length, get_or, Some, None, Option, sym, refl, ap, ◌∙◌, subst, mod-eq_of_lt, mul-add, arith}
 use Prim.Native.Nat.{◌∣◌}
 use native.Mathlib.Nat.{add-mul-mod_self_right, dvd-mul_left, dvd-mul_right_of_dvd, dvd-sub, dvd_trans, mod-add-div, mod-add-mod, add-mod-mod}
@@ -7,7 +9,7 @@ use Rattle.std.proofs.ByRecursion.{All-weaker}
 use Rattle.std.proofs.lemmas.List.{length-map}
 use Rattle.std.proofs.lemmas.Bool.{eq-eqb, eqb-true}
 use Rattle.congruence.specs.Clocks.{Valid}
-use Rattle.congruence.specs.Divisors.{IsGcd}
+use Rattle.std.specs.Int.{IsGcd}
 use Rattle.congruence.proofs.Meetings.{mod_more, slide}
 use Rattle.congruence.proofs.Multiples.{lcm_exists}
 use Rattle.load.specs.Kinds.{Kind, Laws}
@@ -102,8 +104,8 @@ module _ {L : Type 0} (K : Kind L) (laws : Laws K) (T : ℕ) (ps : Places) (vali
           omega (arith, native.Mathlib.Nat.add-mul (m - 1) 1 T, ap (λ k. k * T) one)
 
       divides : (m : ℕ) → AllByRecursion (λ p. p ∣ m) (periods_of ps) → (s : ℕ) (p : Option Draw) → get_or ps s None ≡ p → (d : Draw) → moved_place T p ≡ Some d → d.clock.period ∣ m
-      divides m all s None e d is = absurd (Rattle.draws.proofs.Cliques.none_some is)
-      divides m all s (Some c) e d is = subst (λ q. q ∣ m) (ap (λ b. b.clock.period) (Rattle.draws.proofs.Cliques.some_same is)) (periods_at (λ p. p ∣ m) ps all s c e)
+      divides m all s None e d is = absurd (none-some _ is)
+      divides m all s (Some c) e d is = subst (λ q. q ∣ m) (ap (λ b. b.clock.period) (same_Some _ _ is)) (periods_at (λ p. p ∣ m) ps all s c e)
 
 -- Time can be moved so that every clock of the periods qs stands as it stood and the wait x of a box of period p becomes
 -- its remainder by the factor.
@@ -112,7 +114,7 @@ slide_to qs p h x some below f =
     let c = h * (x / h) in
     let whole : x % h + c ≡ x = mod-add-div x h in
     let d = p - c in
-    let move = slide qs p d some (All-weaker (λ q. (g : ℕ) → IsGcd p q g → g ∣ h) (λ q. (g : ℕ) → IsGcd q p g → g ∣ d) (λ q all g is. dvd-sub g is.right (dvd-mul_right_of_dvd g (all g (record { left = is.right; right = is.left; greatest = λ k a b. is.greatest k b a })) (x / h))) qs f.multiple) in
+    let move = slide qs p d some (All-weaker (λ q. (g : ℕ) → IsGcd p q g → g ∣ h) (λ q. (g : ℕ) → IsGcd q p g → g ∣ d) (λ q all g is. dvd-sub g is.1 (dvd-mul_right_of_dvd g (all g (IsGcd-swap _ _ _ is)) (x / h))) qs f.multiple) in
     let sum : x + d ≡ x % h + 1 * p = omega arith in (
       move.0,
       move.1,

@@ -38,7 +38,7 @@ fn product(berths: &[Option<Berth>; 24]) -> Option<u32>
     ensures { MatchOption result (most_settings < product (factors_of berths.now))
         (λ n. (n ≡ product (factors_of berths.now)) × (n ≤ most_settings)) }
 {
-    // A loop, since what a `try_fold` over a flattened array gives has no lemma.
+    // A loop that ends by `?`, as `lcm_of` is: a `try_fold` reads no plainer.
     let mut n: u32 = 1;
     for place in berths {
         let factor = place.map_or(1, |berth| u32::from(berth.factor));

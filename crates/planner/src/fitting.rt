@@ -37,7 +37,7 @@ pub fn fit<L: Load, F: FullFinder<L>>(finder: &mut F, table: &Table) -> Timetabl
     ensures just_booked { JustBooked table.now.slots result.waits }
 {
     let mut prefix = Prefix::new(finder, table.running(), [None; 24]);
-    // Place by place: behind a `flatten` the loop has no index, and the proof goes by the socket.
+    // Socket by socket, as the contract goes: a `flatten` would leave the sockets out.
     for place in &berths(table) {
         if let Some(berth) = place {
             prefix = with_best(finder, &prefix, berth);

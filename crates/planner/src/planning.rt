@@ -19,7 +19,7 @@ fn heaviest<L: Load>(table: &Table) -> u32
     ensures { (v : ℕ → ℕ) → Choice table.now.slots v →
         Reaches L.Load.kind (chosen table.now.slots v) result }
 {
-    // A loop, since a chain of `filter_map` and `max` leaves open which slot its result comes from.
+    // A loop: a chain of `filter_map` and `max` reads no plainer, and its proof is twice as long.
     let mut most: u32 = 0;
     for slot in table.slots() {
         if let Slot::Booked(booking) = slot {

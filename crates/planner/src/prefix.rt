@@ -9,8 +9,8 @@ use draws::DrawList;
 use finder::FullFinder;
 use load::Load;
 
-// The boxes set so far beside those that run, the peak that they have, and the waits that were set: the list alone
-// does not tell a box that was set from one that runs.
+// The boxes set so far beside those that run, the peak that they have, and the waits that were set. To read
+// these off the list would take the booked sockets as well.
 #[derive(Clone, Copy)]
 pub struct Prefix {
     pub list: DrawList,

@@ -6,7 +6,8 @@ ghost use Rattle.std.specs.Process.{exit_status};
 
 use std::process::ExitCode;
 
-// The status of a program by what its work came to. Where that failed, a line on standard error says which program, and why.
+// The status of a program by what its work came to. Where that failed, a line on standard error says which program,
+// and why.
 pub fn status_of(rt: &impl Eprint, program: &str, done: anyhow::Result<()>) -> ExitCode
     ensures ok { OnOk done (exit_status result ≡ 0) }
     ensures err { OnErr done (exit_status result ≡ 1) }

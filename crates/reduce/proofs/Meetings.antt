@@ -1,9 +1,10 @@
 -- Two boxes meet exactly when they meet with their periods reduced.
+use Rattle.std.proofs.lemmas.Nat.Gcd.{IsGcd-swap}
 use Rattle.std.proofs.Common.{◌≡◌, ℕ, ◌%◌, [], ◌∷◌, get_or, set, Some, None, sym, ap, ◌∙◌, ⊎_elim, arith}
 use Prim.Native.Nat.{◌∣◌}
 use native.Mathlib.Nat.{dvd_trans, mod-mod_of_dvd}
 use Rattle.std.proofs.lemmas.Bool.{cases_lt}
-use Rattle.congruence.specs.Divisors.{IsGcd}
+use Rattle.std.specs.Int.{IsGcd}
 use Rattle.congruence.specs.Clocks.{Meet, Valid, apart}
 use Rattle.congruence.proofs.Euclid.{euclid, euclid_gcd}
 use Rattle.congruence.proofs.Meetings.{meet_by_gcd, mod_more}
@@ -24,9 +25,6 @@ same_remainder a b g d =
     (λ more. ap (λ n. n % g) (omega arith) ∙ mod_more b (apart a b) g d)
     (cases_lt a b)
 
-gcd_swap : {a b g : ℕ} → IsGcd a b g → IsGcd b a g
-gcd_swap s = record { left = s.right; right = s.left; greatest = λ d x y. s.greatest d y x }
-
 -- two boxes at different places, before and after
 module _ (ps : Places) (i j : ℕ) (d e : Draw) (h k : ℕ) (differ : i ≡ j → ⊥) (at_i : get_or ps i None ≡ Some d) (at_j : get_or ps j None ≡ Some e) (f : Factor (others ps i) d.clock.period h) (f' : Factor (others ps j) e.clock.period k) (valid-d : Valid d.clock) (valid-e : Valid e.clock) (valid-d' : Valid (shortened d h).clock) (valid-e' : Valid (shortened e k).clock) where
   g : ℕ
@@ -40,14 +38,10 @@ module _ (ps : Places) (i j : ℕ) (d e : Draw) (h k : ℕ) (differ : i ≡ j �
   in_h = periods_at (λ q. (n : ℕ) → IsGcd d.clock.period q n → n ∣ h) (set ps i None) f.multiple j e (get_or-set_other ps i j None None (λ same. differ (sym same)) ∙ at_j) g before
 
   in_k : g ∣ k
-  in_k = periods_at (λ q. (n : ℕ) → IsGcd e.clock.period q n → n ∣ k) (set ps j None) f'.multiple i d (get_or-set_other ps j i None None differ ∙ at_i) g (gcd_swap before)
+  in_k = periods_at (λ q. (n : ℕ) → IsGcd e.clock.period q n → n ∣ k) (set ps j None) f'.multiple i d (get_or-set_other ps j i None None differ ∙ at_i) g (IsGcd-swap _ _ _ before)
 
   after : IsGcd h k g
-  after = record {
-    left = in_h;
-    right = in_k;
-    greatest = λ c x y. before.greatest c (dvd_trans c x (factor_divides f)) (dvd_trans c y (factor_divides f'));
-  }
+  after = (in_h, in_k, λ c x y. before.2 c (dvd_trans c x (factor_divides f)) (dvd_trans c y (factor_divides f')))
 
   pub meet_shortened : Meet (d.clock ∷ (e.clock ∷ [])) → Meet ((shortened d h).clock ∷ ((shortened e k).clock ∷ []))
   meet_shortened m =

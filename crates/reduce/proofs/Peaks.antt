@@ -1,4 +1,5 @@
 -- A reduced list has the pairs that meet and the loads of the list itself, and so its peak.
+use Rattle.std.proofs.lemmas.Option.{none-some}
 use Rattle.std.proofs.Common.{◌≡◌, ℕ, ◌<◌, Bool, [], ◌∷◌, length, get_or, Some, None, Ok, Err, Option, Result, sym, refl, ap, ◌∙◌, subst, ⊎_elim, mod-eq_of_lt, arith}
 use native.Mathlib.Nat.{dvd_antisymm}
 use Rattle.std.proofs.lemmas.List.{ext_get_or, get_or_past}
@@ -9,7 +10,7 @@ use Rattle.load.specs.Kinds.{Kind, Laws}
 use Rattle.draws.specs.declared.draw.Draw.{Draw}
 use Rattle.draws.specs.Draws.{Found, Places, bit, drawing, load_of, total}
 use Rattle.draws.specs.Meetings.{EachTwo, MeetAt}
-use Rattle.draws.proofs.Cliques.{AllValid, drawing_pairs, none_some, pairs_from_together, together_from_pairs}
+use Rattle.draws.proofs.Cliques.{AllValid, drawing_pairs, pairs_from_together, together_from_pairs}
 use Rattle.draws.proofs.Peaks.{total_places}
 use Rattle.draws.proofs.Totals.{measured_grows}
 use Rattle.finder.specs.Finders.{Answered}
@@ -31,7 +32,7 @@ meets_itself d valid =
     (d.clock.wait, (due, (due, tt)))
 
 some_meets : (p : Option Draw) → ((d : Draw) → p ≡ Some d → Valid d.clock) → (d : Draw) → p ≡ Some d → MeetAt p p
-some_meets None valid d e = none_some e
+some_meets None valid d e = none-some _ e
 some_meets (Some c) valid d e = meets_itself c (valid c refl)
 
 not_empty : (q : Option Draw) → MeetAt q q → q ≡ None → ⊥

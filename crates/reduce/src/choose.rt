@@ -14,10 +14,11 @@ impl<L: Load, F: Finder<L>, G: FullFinder<L>> Finder<L> for Choose<F, G> {
     ghost reach = { λ _ _. Unit {0} };
 
     fn find(&mut self, list: &DrawList) -> Result<(u32, u32), Refusal> {
-        match self.first.find(list) {
-            Ok(found) => Ok(found),
-            Err(_) => Ok(self.second.find_any(list)),
-        }
+        let found = self
+            .first
+            .find(list)
+            .unwrap_or_else(|_| self.second.find_any(list));
+        Ok(found)
     }
 }
 

@@ -17,7 +17,8 @@ impl<L: Load, F: Finder<L>> Finder<L> for Reduce<F> {
     ghost reach = { λ s ps. ((qs : Places) → Reduced ps 24 qs → F.Finder.reach s.below qs) };
 
     fn find(&mut self, list: &DrawList) -> Result<(u32, u32), Refusal> {
-        self.below.find(&reduced(list))
+        let short = reduced(list);
+        self.below.find(&short)
     }
 }
 

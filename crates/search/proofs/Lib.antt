@@ -1,4 +1,3 @@
-pub mod Tables
 pub mod Visits
 pub mod Pairs
 pub mod Starts

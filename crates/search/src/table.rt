@@ -32,7 +32,8 @@ pub fn held(list: &DrawList) -> u32
     mask_of(&array::from_fn(|s| meet_at(list, s, s)))
 }
 
-// For each place the places that it meets: an array, since a search has no heap and looks rows up at every step.
+// For each place of the list the places that it meets, as an array beside it: a search has no heap, and looks rows up
+// at every step.
 pub fn meetings(list: &DrawList) -> [u32; 24]
     ensures { Tabled list.now.places 24 result }
 {

@@ -1,13 +1,12 @@
 -- The places of a table, socket by socket.
-use Rattle.std.proofs.Common.{◌≡◌, ℕ, zero, suc, ◌+◌, ◌<◌, ◌≤◌, true, ltb, leb, List, [], ◌∷◌, length, get_or, is_ok, None, Ok, Err, Result, sym, refl, ap, ◌∙◌, ⊎_elim, arith}
+use Rattle.std.proofs.Common.{◌≡◌, ℕ, zero, suc, ◌+◌, ◌<◌, ◌≤◌, true, ltb, leb, List, [], ◌∷◌, length, get_or, None, sym, refl, ap, ◌∙◌, ⊎_elim, arith}
 use Rattle.std.proofs.lemmas.List.{ext_get_or, get_or_past}
-use Rattle.std.proofs.lemmas.Bool.{and_parts, cases_lt, false≢true, leb-true, ltb-true}
+use Rattle.std.proofs.lemmas.Bool.{and_parts, cases_lt, leb-true, ltb-true}
 use Rattle.congruence.specs.Clocks.{Valid}
 use Rattle.draws.specs.declared.draw.Draw.{Draw}
-use Rattle.congruence.specs.declared.refusals.Refusal.{Refusal}
 use Rattle.congruence.specs.Refusals.{period_check}
 use Rattle.congruence.proofs.Verdicts.{all_pass}
-use Rattle.draws.specs.Checks.{draw_verdict, range_check}
+use Rattle.draws.specs.Checks.{range_check}
 use Rattle.draws.specs.Draws.{Places}
 use Rattle.draws.proofs.Sounds.{sound_valid}
 use Rattle.table.specs.declared.slot.Booking.{Booking}
@@ -58,14 +57,6 @@ bookable table s b e =
     let all = all_pass (period_check b.period ∷ (range_check b.rating ∷ [])) (ap sound_slot (sym e) ∙ sound_at table s) in
     let range = and_parts (ltb 0 b.period) (leb b.period 1000) all.0 in
     record { some = ltb-true _ _ range.0; most = leb-true _ _ range.1; range = all.1.0 }
-
--- a running box can stand in a list
-pub running_fits : (table : Table) (s : ℕ) (d : Draw) → get_or table.slots s Empty ≡ Running d → draw_verdict d ≡ Ok tt
-running_fits table s d e = ok_of (draw_verdict d) (ap sound_slot (sym e) ∙ sound_at table s)
-  where
-    ok_of : (r : Result (Unit {0}) Refusal) → is_ok r ≡ true → r ≡ Ok tt
-    ok_of (Ok x) h = refl
-    ok_of (Err e) h = absurd (false≢true h)
 
 pub running_valid : (table : Table) (s : ℕ) (d : Draw) → get_or table.slots s Empty ≡ Running d → Valid d.clock
 running_valid table s d e = sound_valid d (ap sound_slot (sym e) ∙ sound_at table s)

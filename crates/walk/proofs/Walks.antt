@@ -5,8 +5,8 @@ use denote.Param.Members.{Called, Mut}
 use native.Mathlib.Nat.{mod-mod_of_dvd}
 use Rattle.std.specs.List.{AllByRecursion}
 use Rattle.std.specs.Iterator.Runs.{AllItems, AnyItem, CallKeepsClosure, IsMapRun, ItemsCountUp, Run}
-use Rattle.std.specs.Option.{option_map}
 use Rattle.load.specs.Kinds.{Kind, Laws}
+use Rattle.std.proofs.lemmas.Iterator.Adapters.{option_map_id}
 use Rattle.congruence.specs.Divisors.{IsLcm}
 use Rattle.draws.specs.Draws.{Found, Places, at_tick, bit, drawing, periods_of, total}
 use Rattle.draws.specs.Masks.{Names}
@@ -20,10 +20,6 @@ drawing_cycle (None ∷ ps) m t zero all = refl
 drawing_cycle (None ∷ ps) m t (suc s) all = drawing_cycle ps m t s all
 drawing_cycle (Some d ∷ ps) m t zero all = ap (λ n. eqb n d.clock.wait) (mod-mod_of_dvd d.clock.period t all.0)
 drawing_cycle (Some d ∷ ps) m t (suc s) all = drawing_cycle ps m t s all.1
-
-same_some : (o : Option ℕ) (n : ℕ) → option_map (λ y. y) o ≡ Some n → o ≡ Some n
-same_some (Some x) n e = e
-same_some None n e = absurd cc
 
 some_of : {X : Type 0} (P : X → Type 0) (o : Option X) → IsSomeAnd o P → (x : X) × (o ≡ Some x) × P x
 some_of P (Some x) h = (x, refl, h)
@@ -48,7 +44,7 @@ module _ {L : Type 0} (K : Kind L) (laws : Laws K) (ps : Places) (few : length p
 
     drawn_at : (t : ℕ) → t < cycle → (r : ℕ × ℕ) × (p.at t ≡ Some r) × Drawn t r
     drawn_at t low =
-        let at : q.at t ≡ Some t = same_some _ t (rw (zero-add t) at (up.3 t (omega (arith, long)))) in
+        let at : q.at t ≡ Some t = sym (option_map_id _) ∙ rw (zero-add t) at (up.3 t (omega (arith, long))) in
         let r = some_of (λ r. Called g f (t, tt) r f) (p.at t) (subst (λ o. IfSome o (λ x. IsSomeAnd (p.at t) (λ y. Called g f (x, tt) y f))) at ((mapped.2 keeps).0 t)) in
         (r.0, r.1, drawn t r.0 r.2)
 

@@ -54,9 +54,7 @@ impl<L: Load> Finder<L> for Walk {
     ghost reach = { λ _ ps. Short ps };
 
     fn find(&mut self, list: &DrawList) -> Result<(u32, u32), Refusal> {
-        match cycle_of(list) {
-            Some(cycle) => Ok(walk_cycle::<L>(list, cycle)),
-            None => Err(Refusal::BeyondReach),
-        }
+        let cycle = cycle_of(list).ok_or(Refusal::BeyondReach)?;
+        Ok(walk_cycle::<L>(list, cycle))
     }
 }

@@ -3,7 +3,7 @@ use Prim.Native.Nat.{◌∣◌}
 use native.Mathlib.Nat.{dvd_of_mod-eq-zero, mod-eq-zero_of_dvd, pos_of_dvd_of_pos}
 use Rattle.std.proofs.lemmas.Bool.{both_ways, eq-eqb, eqb-true, false≢true}
 use Rattle.congruence.specs.Clocks.{Valid, apart}
-use Rattle.congruence.specs.Divisors.{IsGcd}
+use Rattle.std.specs.Int.{IsGcd}
 use Rattle.congruence.proofs.Meetings.{meet_by_gcd}
 use Rattle.congruence.proofs.clocks.meets.Goals as goal
 use Rattle.congruence.proofs.clocks.meets.Goals.{then-not-is_valid-via-then-not-is_valid, then-not-is_valid-via-else-not-is_valid+then-not-is_valid-2, After-from-3}
@@ -35,7 +35,7 @@ distance : (c : After-from-3) → c.from-3.result ≡ apart c.args.a.wait c.args
 distance c = c.from-3.ensures ∙ c.abs_diff.ensures
 
 pub nonzero_rem-result : goal.nonzero_rem-result
-nonzero_rem-result c = pos_of_dvd_of_pos (divisor c).left (valid_a c).some
+nonzero_rem-result c = pos_of_dvd_of_pos (divisor c).0 (valid_a c).some
 
 pub returns : goal.returns
 returns c =

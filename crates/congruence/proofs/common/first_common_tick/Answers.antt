@@ -35,10 +35,6 @@ past_the_bound-requires c =
     let long = subst (Merges _) (c.in_ok-shared.was ∙ ap Ok c.in_default.is) (one_more (goal.at.past_the_bound-requires c).After-merge) in
     record { valid = valid; beyond = beyond_of_all (c.loop-clock.clock-index + 1) _ valid long }
 
-pub loop-clock-preserved : goal.loop-clock-preserved
-loop-clock-preserved c =
-    subst (Merges _) (c.in_ok-shared.was ∙ ap Ok c.in-Some.is) (one_more (goal.at.loop-clock-preserved c).After-merge)
-
 pub returns : goal.returns
 returns c = (
   c.in_ok-check_clocks.ensures,

@@ -8,7 +8,7 @@ use Rattle.congruence.proofs.numbers.lcm.Goals as goal
 use Rattle.congruence.proofs.numbers.lcm.Goals.{After-gcd}
 
 some_divisor : (c : After-gcd) → 0 < c.gcd.result
-some_divisor c = pos_of_dvd_of_pos c.gcd.ensures.left (omega (arith, c.if-a-eq0.false))
+some_divisor c = pos_of_dvd_of_pos c.gcd.ensures.0 (omega (arith, c.if-a-eq0.false))
 
 multiple : (c : After-gcd) → IsLcm (c.args.a ∷ (c.args.b ∷ [])) (c.args.a / c.gcd.result * c.args.b)
 multiple c = gcd_lcm _ _ _ c.gcd.ensures (some_divisor c)

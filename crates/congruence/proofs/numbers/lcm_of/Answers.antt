@@ -1,9 +1,7 @@
-use Rattle.std.proofs.Common.{◌+◌, eqb, Decides, subst, arith}
+use Rattle.std.proofs.Common.{◌+◌, eqb, Decides, arith}
 use Rattle.std.specs.List.{ContainsAt}
 use Rattle.std.proofs.lemmas.List.Elements.{contains_decides}
-use Rattle.std.proofs.lemmas.List.{take_all}
 use Rattle.std.proofs.lemmas.Bool.Decides.{not_from_Decides, Decides-eqb}
-use Rattle.congruence.specs.Divisors.{LcmWithin}
 use Rattle.congruence.proofs.Multiples.{all_some, lcm_beyond_front, lcm_next, lcm_none, lcm_with_zero}
 use Rattle.congruence.proofs.numbers.lcm_of.Goals as goal
 use Rattle.congruence.proofs.numbers.lcm_of.Goals.{After-contains}
@@ -28,6 +26,3 @@ pub loop-n-preserved : goal.loop-n-preserved
 loop-n-preserved c =
     let next = c.in_ok-so_far.ensures in
     (lcm_next _ _ _ _ _ c.loop-n-test.true c.loop-n.invariant.0 next.0, next.1)
-
-pub returns : goal.returns
-returns c = subst (λ ns. LcmWithin ns c.loop-n.so_far) (take_all _ _ c.loop-n-test.false) c.loop-n.invariant

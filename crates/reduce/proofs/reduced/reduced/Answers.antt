@@ -28,8 +28,3 @@ loop-place-preserved c =
         | in_default w ↦ subst (λ l. Sofar ps (n + 1) l.places) (sym w.out-is) (sofar_none ps n _ (low c) sofar (at _ w.in_default.is))
       ];
     }
-
-pub returns : goal.returns
-returns c =
-    let full : c.loop-place.place ≡ 24 = omega (arith, c.args.list.now.whole, ap length c.loop-place.invariant.places) in
-    (subst (λ n. Sofar c.args.list.now.places n c.loop-place.out.places) full c.loop-place.invariant.sofar).done

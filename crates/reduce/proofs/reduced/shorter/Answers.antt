@@ -14,9 +14,6 @@ valid c = all_valid c.args.list.now c.args.place c.args.draw c.requires
 factor_is : (c : In-Some) → Factor (others c.args.list.now.places c.args.place) c.args.draw.clock.period c.in-Some.period
 factor_is c = subst (λ ps. Factor (periods_of ps) c.args.draw.clock.period c.in-Some.period) c.clear.ensures c.in-Some.ensures
 
-pub unreachable-requires : goal.unreachable-requires
-unreachable-requires c = let v = valid (goal.at.unreachable-requires c).Start in omega (arith, c.in-None.ensures, v.some)
-
 pub nonzero_rem-result : goal.nonzero_rem-result
 nonzero_rem-result c = factor_some (valid (goal.at.nonzero_rem-result c).Start).some c.in-Some.ensures
 
