@@ -12,7 +12,8 @@ use crate::refusals::Refusal;
 pub const LONGEST_PERIOD: u16 = 1_000;
 
 // A running box's clock: it draws after `wait` more ticks, and every `period` ticks from then on. Its fields are
-// open and not held to their ranges: the calls below answer for clocks that no box can have as well.
+// open and not held to their ranges: the calls below answer for clocks that no box can have as well, and a type that
+// holds valid ones only would ask more of those who call.
 #[derive(Clone, Copy, Debug, PartialEq, Eq)]
 pub struct Clock {
     pub period: u16,

@@ -26,17 +26,17 @@ static REFUSED: [(&[(u16, u16)], usize, Refusal); 12] = [
     ),
 ];
 
-fn first_fault(clocks: &[Clock]) -> Option<RefusedClock> {
-    clocks.iter().enumerate().find_map(|(place, clock)| {
+// Clock by clock.
+fn check_each(clocks: &[Clock]) -> Result<(), RefusedClock> {
+    clocks.iter().enumerate().try_for_each(|(place, clock)| {
         clock
             .check()
-            .err()
-            .map(|refusal| RefusedClock { place, refusal })
+            .map_err(|refusal| RefusedClock { place, refusal })
     })
 }
 
 fn check_refused(rt: &impl Abort, clocks: &[Clock], refused: RefusedClock) {
-    assert_eq!(rt; first_fault(clocks), Some(refused), "of {clocks:?}");
+    assert_eq!(rt; check_each(clocks), Err(refused), "of {clocks:?}");
     assert_eq!(rt; check_clocks(clocks), Err(refused), "of {clocks:?}");
     assert_eq!(rt;
         first_common_tick(clocks),

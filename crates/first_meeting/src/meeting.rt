@@ -35,7 +35,7 @@ pub enum Fault {
     Memory,
 }
 
-// A box can only be refused for its period or for its wait.
+// By hand, since the words depend on the refusal: a box can only be refused for its period or for its wait.
 fn write_bad_box<W: fmt::Write>(
     line: &usize,
     period: &u32,

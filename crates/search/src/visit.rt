@@ -18,8 +18,8 @@ pub struct Node<L> {
 // The best of `best`, a peak and its group, and of all groups that hold the node's and else only places that it
 // has left. The next place is the lowest of these: first with it, then without. A branch is cut where all that it
 // has left together does not measure more than the best.
-// The list and its meetings are two parameters, since that they belong together is told by ticks, and a ghost field
-// holds only what is told in one way.
+// The list and its meetings are two parameters. A struct of both was tried: that they belong together is told by ticks,
+// and a ghost field holds only what is told in one way.
 fn visit<L: Load>(list: &DrawList, meets: &[u32; 24], node: Node<L>, best: (u32, u32)) -> (u32, u32)
     requires tabled { Tabled list.now.places 24 meets.now }
     requires node { IsNode L.Load.kind list.now.places node.group node.load node.left best.0 }

@@ -10,8 +10,9 @@ use draws::DrawList;
 
 pub const SOCKETS: usize = 24;
 
-// It has the form of a list of boxes, which holds other content. It is the bank's plain table, with its rows in its
-// invariant and its array copied and written back whole, and so a type of its own and no instance of a generic one.
+// It has the form of a list of boxes, which holds other content. By a rule of the project it is the bank's plain table,
+// with its rows in its invariant and its array copied and written back whole, and so a type of its own and no instance
+// of a generic one.
 #[derive(Clone, Copy)]
 pub struct Table {
     pub(crate) slots: [Slot; 24],
