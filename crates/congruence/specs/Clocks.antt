@@ -1,9 +1,8 @@
 -- When boxes draw, and which of them draw together.
 use Rattle.std.specs.Prelude.{◌≡◌, ℕ, ◌+◌, ◌-◌, ◌%◌, ◌<◌, ◌≤◌, ◌↔◌, List, [], ◌∷◌, map}
-use Rattle.std.specs.Int.{◌∣◌}
+use Rattle.std.specs.Int.{◌∣◌, IsGcd}
 use Rattle.std.specs.List.{AllByRecursion}
 use Rattle.congruence.specs.declared.clocks.Clock.{Clock}
-use Rattle.std.specs.Int.{IsGcd}
 
 -- the clocks that a box can have: a period of 1 to 1,000 ticks, and a wait below it
 pub record Valid (c : Clock) : Type 0 where

@@ -1,8 +1,7 @@
 -- By how much a wait matters beside other boxes.
 use Rattle.std.specs.Prelude.{◌≡◌, ℕ, List, Some, None, Option}
-use Rattle.std.specs.Int.{◌∣◌}
+use Rattle.std.specs.Int.{◌∣◌, IsGcd}
 use Rattle.std.specs.List.{AllByRecursion}
-use Rattle.std.specs.Int.{IsGcd}
 use Rattle.draws.specs.declared.draw.Draw.{Draw}
 
 -- k is a multiple of the greatest common divisors of p with each of the periods qs
