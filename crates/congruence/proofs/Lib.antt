@@ -3,7 +3,6 @@ pub mod Links
 pub mod Meetings
 pub mod Multiples
 pub mod Merges
-pub mod Tries
 pub mod Passes
 pub mod Firsts
 pub mod Verdicts

@@ -41,27 +41,23 @@ others cs = take (length cs - 1) (drop 1 cs)
 others-cons : (c : Clock) (cs : List Clock) → others (c ∷ cs) ≡ cs
 others-cons c cs = take_all _ cs (omega arith)
 
-pub meet_none : (cs : List Clock) → length cs < 1 → AllByRecursion Valid cs × Meet cs
+-- all clocks are valid, and some tick has all boxes draw
+abbrev pub MeetAll : List Clock → Type 0
+MeetAll cs = AllByRecursion Valid cs × Meet cs
+
+pub meet_none : (cs : List Clock) → length cs < 1 → MeetAll cs
 meet_none [] none = (tt, (0, tt))
 meet_none (c ∷ cs) none = absurd (omega arith)
 
 -- a list whose first clock fits the others meets exactly when the others do
-pub meet_more :
-    (cs : List Clock) (d : Clock) (r : Bool) → 1 ≤ length cs
-    → Fits (get_or cs 0 d) (others cs)
-    → IsTrue r ↔ (AllByRecursion Valid (others cs) × Meet (others cs))
-    → IsTrue r ↔ (AllByRecursion Valid cs × Meet cs)
-meet_more [] d r some fits rest = absurd (omega arith)
-meet_more (c ∷ cs) d r some fits rest =
+pub meet_more : (cs : List Clock) (d : Clock) → 1 ≤ length cs → Fits (get_or cs 0 d) (others cs) → MeetAll (others cs) ↔ MeetAll cs
+meet_more [] d some fits = absurd (omega arith)
+meet_more (c ∷ cs) d some fits =
     let fits : Fits c cs = rw others-cons at fits in
-    let rest : IsTrue r ↔ (AllByRecursion Valid cs × Meet cs) = rw others-cons at rest in
-    (λ e. let h = rest.0 e in ((fits.0, h.0), meet_of_fits c cs fits h.0 h.1), λ h. rest.1 (h.0.1, (h.1.0, h.1.1.1)))
+    rw others-cons (λ h. ((fits.0, h.0), meet_of_fits c cs fits h.0 h.1), λ h. (h.0.1, (h.1.0, h.1.1.1)))
 
 -- and does not meet where it fits them not
-pub meet_not :
-    (cs : List Clock) (d : Clock) → 1 ≤ length cs
-    → (Fits (get_or cs 0 d) (others cs) → ⊥)
-    → AllByRecursion Valid cs × Meet cs → ⊥
+pub meet_not : (cs : List Clock) (d : Clock) → 1 ≤ length cs → (Fits (get_or cs 0 d) (others cs) → ⊥) → MeetAll cs → ⊥
 meet_not [] d some none h = absurd (omega arith)
 meet_not (c ∷ cs) d some none h =
     let fits : Fits c (others (c ∷ cs)) = rw others-cons (fits_of c cs h.0 h.1) in

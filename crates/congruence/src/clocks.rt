@@ -87,8 +87,12 @@ pub fn all_meet(clocks: &[Clock]) -> bool
     ensures by_pairs { MeetByPairs }
     ensures slide { Slide }
 {
-    match clocks {
-        [] => true,
-        [clock, others @ ..] => meets_each(*clock, others) && all_meet(others),
+    let mut left = clocks;
+    while let [clock, others @ ..] = left {
+        if !meets_each(*clock, others) {
+            return false;
+        }
+        left = others;
     }
+    true
 }

@@ -49,11 +49,15 @@ fn merge(so_far: Shared, clock: Clock) -> Result<Option<Shared>, NoCommonTick>
     let Some(next) = lcm(so_far.step, period) else {
         return Ok(None);
     };
-    let tick = (so_far.tick..next)
-        .step_by(so_far.step as usize)
-        .find(|tick| tick % period == wait)
-        .ok_or(NoCommonTick::Never)?;
-    Ok(Some(Shared { tick, step: next }))
+    // A loop: `step_by` is written so as to go over the ticks between as well, and only an optimizer skips them.
+    let mut tick = so_far.tick;
+    for _tried in 0..next / so_far.step {
+        if tick % period == wait {
+            return Ok(Some(Shared { tick, step: next }));
+        }
+        tick += so_far.step;
+    }
+    Err(NoCommonTick::Never)
 }
 
 // The first tick at which all of them draw, that of no clock being 0; None where some tick has them all draw, but

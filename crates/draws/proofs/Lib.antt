@@ -6,6 +6,5 @@ pub mod Sounds
 pub mod Masks
 pub mod Sums
 pub mod Periods
-pub mod Lcms
 pub mod Factoring
 pub mod Peaks

@@ -3,10 +3,8 @@ ghost use Rattle.std.specs.Prelude.{◌≡◌, IsTrue, None, slice_index_or};
 ghost use Rattle.draws.specs.Draws.{bit, drawing, load_of, total};
 ghost use Rattle.draws.specs.Masks.{Names};
 
-use crate::groups::mask_of;
 use crate::list::DrawList;
 use load::Load;
-use std::array;
 
 impl DrawList {
     // The load of what stands at a place.
@@ -33,17 +31,17 @@ impl DrawList {
         sum
     }
 
-    // Whether the box at a place draws at a tick.
-    fn draws_at(&self, place: usize, tick: u64) -> bool
-        ensures { result ≡ drawing self.now.places tick place }
-    {
-        self.at(place).is_some_and(|draw| draw.is_due(tick))
-    }
-
-    // The places that draw at a tick.
+    // The places that draw at a tick. A walk asks this at every tick, so the mask is made as the places are gone
+    // through, and not by `mask_of`, which reads an array that would have to be filled first.
     pub fn drawing_at(&self, tick: u64) -> u32
         ensures { Names (λ s. IsTrue (drawing self.now.places tick s)) 24 result }
     {
-        mask_of(&array::from_fn(|place| self.draws_at(place, tick)))
+        let mut mask = 0;
+        for (place, held) in self.places.iter().enumerate() {
+            if held.is_some_and(|draw| draw.is_due(tick)) {
+                mask |= 1 << place;
+            }
+        }
+        mask
     }
 }

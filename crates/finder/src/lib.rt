@@ -14,8 +14,7 @@ pub trait Finder<L: Load> {
     // Which lists are within reach.
     ghost reach: { Self → Places → Type 0 };
 
-    // The peak, and a group of places that reaches it, as a mask. A struct would be no plainer: pairs have the order by
-    // which a finder takes the greater of two.
+    // The peak, and a group of places that reaches it, as a mask: a pair, by a rule of the project.
     fn find(&mut self, list: &DrawList) -> Result<(u32, u32), Refusal>
         ensures answer { Answered L.Load.kind list.now.places (reach self.old list.now.places) result }
         ensures reach { (ps : Places) → reach self.new ps ↔ reach self.old ps };

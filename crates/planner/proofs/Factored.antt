@@ -1,5 +1,5 @@
 -- The booked boxes of a table with their factors, socket by socket.
-use Rattle.std.proofs.Common.{◌≡◌, ℕ, zero, suc, ◌+◌, ◌<◌, ◌≤◌, List, length, get_or, set, replicate, Some, None, Option, sym, refl, ap, ◌∙◌, subst, arith}
+use Rattle.std.proofs.Common.{◌≡◌, ℕ, zero, suc, ◌+◌, ◌<◌, ◌≤◌, List, length, get_or, set, replicate, Some, None, MatchOption, Option, sym, refl, ap, ◌∙◌, subst, arith}
 use borrow.Author.Count.{below_more}
 use Rattle.std.proofs.lemmas.List.{get_or-map, get_or-set_other, get_or-set_same, length-map, length-set}
 use Rattle.draws.specs.Draws.{Places, periods_of}
@@ -12,7 +12,7 @@ use Rattle.table.specs.Tables.{places}
 use Rattle.planner.specs.declared.berth.Berth.{Berth}
 use Rattle.planner.specs.Berths.{BerthAt, Berths, IsBerth, factor_of, factors_of}
 use Rattle.planner.specs.Choices.{BookedAt}
-use Rattle.planner.specs.Settings.{FactorAt, Factors, beside}
+use Rattle.planner.specs.Settings.{Counted, FactorAt, Factors, beside, most_settings, product}
 use Rattle.planner.proofs.Placing.{booked_within, places_set, places_skip}
 
 -- no place of an empty list holds anything
@@ -76,3 +76,8 @@ module _ (slots : List Slot) (xs : List (Option Berth)) (f : Berths slots xs) wh
 
       pub its_factor : get_or (factors_of xs) s 0 ≡ x.factor
       its_factor = get_or-map factor_of xs s None 0 (omega (arith, f.long)) ∙ ap factor_of e
+
+-- the product of the factors is the number of settings
+pub counted_by : (slots : List Slot) (hs : List ℕ) → Factors slots hs → (r : Option ℕ) → MatchOption r (most_settings < product hs) (λ n. (n ≡ product hs) × (n ≤ most_settings)) → Counted slots r
+counted_by slots hs f None more = (product hs, (hs, f, refl), more)
+counted_by slots hs f (Some n) is = ((hs, f, sym is.0), is.1)

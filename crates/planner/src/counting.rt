@@ -34,7 +34,7 @@ pub(crate) fn berths(table: &Table) -> [Option<Berth>; 24]
 }
 
 // The product of the factors, if it is not too large.
-fn product(berths: &[Option<Berth>; 24]) -> Option<u32>
+pub(crate) fn product(berths: &[Option<Berth>; 24]) -> Option<u32>
     ensures { MatchOption result (most_settings < product (factors_of berths.now))
         (λ n. (n ≡ product (factors_of berths.now)) × (n ≤ most_settings)) }
 {

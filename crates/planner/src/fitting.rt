@@ -1,4 +1,5 @@
 // Fitting: the booked boxes one after the other.
+ghost use Rattle.planner.specs.Berths.{Berths};
 ghost use Rattle.planner.specs.Choices.{Fitted};
 ghost use Rattle.planner.specs.Plans.{JustBooked, waits_of};
 ghost use Rattle.planner.specs.Searches.{Fits, Joins};
@@ -36,9 +37,22 @@ pub fn fit<L: Load, F: FullFinder<L>>(finder: &mut F, table: &Table) -> Timetabl
     ensures fitted { Fitted L.Load.kind table.now.slots (waits_of result.waits) result.peak }
     ensures just_booked { JustBooked table.now.slots result.waits }
 {
+    fit_berths(finder, table, &berths(table))
+}
+
+// The same where the berths of the table are known.
+pub(crate) fn fit_berths<L: Load, F: FullFinder<L>>(
+    finder: &mut F,
+    table: &Table,
+    berths: &[Option<Berth>; 24],
+) -> Timetable
+    requires { Berths table.now.slots berths.now }
+    ensures fitted { Fitted L.Load.kind table.now.slots (waits_of result.waits) result.peak }
+    ensures just_booked { JustBooked table.now.slots result.waits }
+{
     let mut prefix = Prefix::new(finder, table.running(), [None; 24]);
     // Socket by socket, as the contract goes: a `flatten` would leave the sockets out.
-    for place in &berths(table) {
+    for place in berths {
         if let Some(berth) = place {
             prefix = with_best(finder, &prefix, berth);
         }

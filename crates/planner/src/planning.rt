@@ -5,8 +5,8 @@ ghost use Rattle.planner.specs.Choices.{Choice, chosen};
 ghost use Rattle.planner.specs.Plans.{Told};
 
 use crate::branches::Space;
-use crate::counting::{berths, settings};
-use crate::fitting::fit;
+use crate::counting::{berths, product};
+use crate::fitting::fit_berths;
 use crate::prefix::Prefix;
 use crate::timetable::Timetable;
 use congruence::Refusal;
@@ -38,16 +38,17 @@ pub fn plan<L: Load, F: FullFinder<L>>(
 ) -> Result<Timetable, Refusal>
     ensures { Told L.Load.kind table.now.slots limit result }
 {
-    if settings(table).is_none() {
+    let berths = berths(table);
+    if product(&berths).is_none() {
         return Err(Refusal::TooManySettings);
     }
-    let limit = fit(finder, table).peak.min(limit);
+    let limit = fit_berths(finder, table, &berths).peak.min(limit);
     let prefix = Prefix::new(finder, table.running(), [None; 24]);
     if prefix.peak > limit {
         return Err(Refusal::LimitPassed);
     }
     let space = Space {
-        berths: berths(table),
+        berths,
         floor: heaviest::<L>(table),
         limit,
     };

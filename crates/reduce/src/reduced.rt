@@ -12,9 +12,7 @@ fn shorter(list: &DrawList, place: usize, draw: Draw) -> Draw
     ensures shortened { ReducedAt list.now.places place (Some draw) (Some result) }
     ensures fits { draw_verdict result ≡ Ok tt }
 {
-    let mut others = *list;
-    others.clear(place);
-    match others.factor(draw.clock.period) {
+    match list.factor_without(place, draw.clock.period) {
         Some(period) => Draw {
             clock: Clock {
                 period,

@@ -21,6 +21,10 @@ fn meet_at(list: &DrawList, s: usize, j: usize) -> bool
 fn meeting_row(list: &DrawList, s: usize) -> u32
     ensures { Row list.now.places s 24 result }
 {
+    // An empty place meets none, and most lists have many.
+    if list.at(s).is_none() {
+        return 0;
+    }
     mask_of(&array::from_fn(|j| meet_at(list, s, j)))
 }
 

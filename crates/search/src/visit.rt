@@ -6,6 +6,7 @@ ghost use Rattle.search.specs.Visits.{IsNode, Reached, Tabled, Visited};
 use crate::table::{held, meetings};
 use draws::DrawList;
 use load::Load;
+use std::cmp::max_by_key;
 
 // Where a search stands: a group whose boxes all meet, its load, and the places that are left to add to it.
 #[derive(Clone, Copy)]
@@ -37,7 +38,8 @@ fn visit<L: Load>(list: &DrawList, meets: &[u32; 24], node: Node<L>, best: (u32,
         load: load.plus(list.load_at(next)),
         left: rest & meets[next],
     };
-    let here = best.max((with.load.measure(), with.group));
+    // Of groups that measure the same the one that was visited first stays.
+    let here = max_by_key((with.load.measure(), with.group), best, |found| found.0);
     let taken = visit(list, meets, with, here);
     visit(list, meets, Node { left: rest, ..node }, taken)
 }

@@ -1,7 +1,6 @@
 -- Which lists have a short cycle.
-use Rattle.std.specs.Prelude.{◌≡◌, ℕ, ◌≤◌, Some, None, Option}
+use Rattle.std.specs.Prelude.{ℕ, ◌≤◌}
 use Rattle.congruence.specs.Divisors.{IsLcm}
-use Rattle.draws.specs.declared.draw.Draw.{Draw}
 use Rattle.draws.specs.Draws.{Places, periods_of}
 
 -- the longest cycle that is gone through
@@ -14,8 +13,3 @@ Cycle ps m = IsLcm (periods_of ps) m × (m ≤ longest)
 
 abbrev pub Short : Places → Type 0
 Short ps = (m : ℕ) × Cycle ps m
-
--- the period of what a place holds, 1 where it holds nothing: for the contract of a private function only
-abbrev pub PeriodAt : Option Draw → ℕ → Type 0
-PeriodAt None n = n ≡ 1
-PeriodAt (Some d) n = n ≡ d.clock.period

@@ -1,4 +1,4 @@
-use Rattle.std.proofs.Common.{◌≡◌, ℕ, suc, ◌≤◌, ◌<◌, min, List, length, true, is_some, ok_or, Some, None, Option, sym, refl, ap, ◌∙◌, subst, inl, inr, arith}
+use Rattle.std.proofs.Common.{◌≡◌, ℕ, suc, ◌≤◌, ◌<◌, min, List, length, true, false, is_some, ok_or, Some, None, Option, sym, refl, ap, ◌∙◌, subst, inl, inr, arith}
 use Rattle.std.proofs.lemmas.Bool.{false≢true}
 use Rattle.congruence.specs.declared.refusals.Refusal.TheVariants.{LimitPassed}
 use Rattle.load.specs.Kinds.{Kind, Laws}
@@ -14,7 +14,7 @@ use Rattle.planner.specs.Choices.{Choice, chosen}
 use Rattle.planner.specs.Plans.{Told, waits_of}
 use Rattle.planner.specs.Searches.{Completes, Outcome}
 use Rattle.planner.specs.Settings.{Counted, Factors}
-use Rattle.planner.proofs.Factored.{factors}
+use Rattle.planner.proofs.Factored.{counted_by, factors}
 use Rattle.planner.proofs.Outcomes.{all_reach, planned}
 use Rattle.planner.proofs.Placing.{places_among}
 use Rattle.planner.proofs.Prefixes.{begun_none}
@@ -24,6 +24,10 @@ use Rattle.planner.proofs.planning.plan.Goals as goal
 counted : (slots : List Slot) (r : Option ℕ) → Counted slots r → is_some r ≡ true → (n : ℕ) × Counted slots (Some n)
 counted slots None is e = absurd (false≢true e)
 counted slots (Some n) is e = (n, is)
+
+uncounted : (slots : List Slot) (r : Option ℕ) → Counted slots r → is_some r ≡ false → Counted slots None
+uncounted slots None is e = is
+uncounted slots (Some n) is e = absurd (false≢true (sym e))
 
 module _ {L : Type 0} (K : Kind L) (laws : Laws K) (table : Table) where
   -- no choice peaks below the running boxes
@@ -54,18 +58,23 @@ module _ {L : Type 0} (K : Kind L) (laws : Laws K) (table : Table) where
         let below : t.peak ≤ limit = omega (arith, best.below) in
         subst (λ (q : Timetable). Told K table.slots limit (ok_or (Some q) LimitPassed)) same (few, planned K laws table hs factors t (suc low) u best, below, booked)
 
+pub returns-then-is_none : goal.returns-then-is_none
+returns-then-is_none g c =
+    let table = c.args.table.now in
+    inl (refl, uncounted table.slots c.product.result (counted_by table.slots _ (factors table.slots c.berths-berths.result c.berths-berths.ensures) c.product.result c.product.ensures) c.if-is_none.ensures)
+
 pub returns-then-prefix-limit : goal.returns-then-prefix-limit
 returns-then-prefix-limit g c =
     let K = g.L.Load.kind in
     let laws = g.met.L.Load.lawful in
     let table = c.args.table.now in
     let prefix = c.new-prefix.result in
-    let fitted = c.fit.ensures.fitted in
+    let fitted = c.fit_berths.ensures.fitted in
     let reached = running_reached K laws table prefix.peak (subst (λ ps. Peak K ps prefix.peak) (ap (λ l. l.places) c.new-prefix.ensures.list ∙ c.running.ensures) c.new-prefix.ensures.is_peak) in
     inr (
       refl,
-      counted table.slots c.settings.result c.settings.ensures c.if-is_none.ensures,
-      λ v choice. limit_passed K laws table c.fit.result.peak c.args.limit c.min-limit.result prefix.peak (waits_of c.fit.result.waits) fitted.is_peak c.min-limit.ensures c.if-prefix-limit.true (reached (waits_of c.fit.result.waits)) v (reached v),
+      counted table.slots c.product.result (counted_by table.slots _ (factors table.slots c.berths-berths.result c.berths-berths.ensures) c.product.result c.product.ensures) c.if-is_none.ensures,
+      λ v choice. limit_passed K laws table c.fit_berths.result.peak c.args.limit c.min-limit.result prefix.peak (waits_of c.fit_berths.result.waits) fitted.is_peak c.min-limit.ensures c.if-prefix-limit.true (reached (waits_of c.fit_berths.result.waits)) v (reached v),
     )
 
 pub returns : goal.returns
@@ -73,10 +82,10 @@ returns g c =
     let K = g.L.Load.kind in
     let laws = g.met.L.Load.lawful in
     let table = c.args.table.now in
-    let hs = factors_of c.berths.result in
+    let hs = factors_of c.berths-berths.result in
     let prefix = c.new-prefix.ensures in
-    let fitted = c.fit.ensures.fitted in
+    let fitted = c.fit_berths.ensures.fitted in
     let begun = begun_none K table hs c.new-prefix.result (ap (λ l. l.places) prefix.list ∙ c.running.ensures) prefix.is_peak prefix.waits in
-    let found = c.extend.ensures table (record { berths = c.berths.ensures; floor = c.heaviest.ensures }) begun in
+    let found = c.extend.ensures table (record { berths = c.berths-berths.ensures; floor = c.heaviest.ensures }) begun in
     subst (Told K table.slots c.args.limit) (sym c.ok_or.ensures.value)
-    (told K laws table hs (factors table.slots c.berths.result c.berths.ensures) c.fit.result.peak c.args.limit c.min-limit.result (waits_of c.fit.result.waits) (waits_of c.new-prefix.result.waits) fitted.choice fitted.is_peak c.min-limit.ensures (counted table.slots c.settings.result c.settings.ensures c.if-is_none.ensures) c.extend.result found)
+    (told K laws table hs (factors table.slots c.berths-berths.result c.berths-berths.ensures) c.fit_berths.result.peak c.args.limit c.min-limit.result (waits_of c.fit_berths.result.waits) (waits_of c.new-prefix.result.waits) fitted.choice fitted.is_peak c.min-limit.ensures (counted table.slots c.product.result (counted_by table.slots _ (factors table.slots c.berths-berths.result c.berths-berths.ensures) c.product.result c.product.ensures) c.if-is_none.ensures) c.extend.result found)

@@ -12,7 +12,7 @@ valid : (c : Start) → Valid c.args.draw.clock
 valid c = all_valid c.args.list.now c.args.place c.args.draw c.requires
 
 factor_is : (c : In-Some) → Factor (others c.args.list.now.places c.args.place) c.args.draw.clock.period c.in-Some.period
-factor_is c = subst (λ ps. Factor (periods_of ps) c.args.draw.clock.period c.in-Some.period) c.clear.ensures c.in-Some.ensures
+factor_is c = c.in-Some.ensures
 
 pub nonzero_rem-result : goal.nonzero_rem-result
 nonzero_rem-result c = factor_some (valid (goal.at.nonzero_rem-result c).Start).some c.in-Some.ensures

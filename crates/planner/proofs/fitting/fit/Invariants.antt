@@ -1,6 +1,0 @@
-use Rattle.planner.specs.Berths.{factors_of}
-use Rattle.planner.proofs.Fits.{FittedTo}
-use Rattle.planner.proofs.fitting.fit.Given as goal
-
-abbrev pub invariant-loop-place : goal.invariant-loop-place
-invariant-loop-place g l = FittedTo g.L.Load.kind l.table (factors_of l.place-items) l.place-index l.prefix
