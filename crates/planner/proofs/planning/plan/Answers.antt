@@ -18,7 +18,9 @@ use Rattle.planner.proofs.Factored.{counted_by, factors}
 use Rattle.planner.proofs.Outcomes.{all_reach, planned}
 use Rattle.planner.proofs.Placing.{places_among}
 use Rattle.planner.proofs.Prefixes.{begun_none}
+use Rattle.planner.proofs.planning.plan.Given as given
 use Rattle.planner.proofs.planning.plan.Goals as goal
+use Rattle.planner.proofs.planning.plan.Goals.{After-product}
 
 -- a number that is not told is too large
 counted : (slots : List Slot) (r : Option ℕ) → Counted slots r → is_some r ≡ true → (n : ℕ) × Counted slots (Some n)
@@ -58,10 +60,16 @@ module _ {L : Type 0} (K : Kind L) (laws : Laws K) (table : Table) where
         let below : t.peak ≤ limit = omega (arith, best.below) in
         subst (λ (q : Timetable). Told K table.slots limit (ok_or (Some q) LimitPassed)) same (few, planned K laws table hs factors t (suc low) u best, below, booked)
 
+-- the number of settings, counted by the berths
+count : (g : given.Over) (c : After-product g) → Counted c.args.table.now.slots c.product.result
+count g c =
+    let slots = c.args.table.now.slots in
+    counted_by slots _ (factors slots c.berths-berths.result c.berths-berths.ensures) c.product.result c.product.ensures
+
 pub returns-then-is_none : goal.returns-then-is_none
 returns-then-is_none g c =
     let table = c.args.table.now in
-    inl (refl, uncounted table.slots c.product.result (counted_by table.slots _ (factors table.slots c.berths-berths.result c.berths-berths.ensures) c.product.result c.product.ensures) c.if-is_none.ensures)
+    inl (refl, uncounted table.slots c.product.result (count g (goal.at.returns-then-is_none g c).After-product) c.if-is_none.ensures)
 
 pub returns-then-prefix-limit : goal.returns-then-prefix-limit
 returns-then-prefix-limit g c =
@@ -73,7 +81,7 @@ returns-then-prefix-limit g c =
     let reached = running_reached K laws table prefix.peak (subst (λ ps. Peak K ps prefix.peak) (ap (λ l. l.places) c.new-prefix.ensures.list ∙ c.running.ensures) c.new-prefix.ensures.is_peak) in
     inr (
       refl,
-      counted table.slots c.product.result (counted_by table.slots _ (factors table.slots c.berths-berths.result c.berths-berths.ensures) c.product.result c.product.ensures) c.if-is_none.ensures,
+      counted table.slots c.product.result (count g (goal.at.returns-then-prefix-limit g c).After-product) c.if-is_none.ensures,
       λ v choice. limit_passed K laws table c.fit_berths.result.peak c.args.limit c.min-limit.result prefix.peak (waits_of c.fit_berths.result.waits) fitted.is_peak c.min-limit.ensures c.if-prefix-limit.true (reached (waits_of c.fit_berths.result.waits)) v (reached v),
     )
 
@@ -88,4 +96,4 @@ returns g c =
     let begun = begun_none K table hs c.new-prefix.result (ap (λ l. l.places) prefix.list ∙ c.running.ensures) prefix.is_peak prefix.waits in
     let found = c.extend.ensures table (record { berths = c.berths-berths.ensures; floor = c.heaviest.ensures }) begun in
     subst (Told K table.slots c.args.limit) (sym c.ok_or.ensures.value)
-    (told K laws table hs (factors table.slots c.berths-berths.result c.berths-berths.ensures) c.fit_berths.result.peak c.args.limit c.min-limit.result (waits_of c.fit_berths.result.waits) (waits_of c.new-prefix.result.waits) fitted.choice fitted.is_peak c.min-limit.ensures (counted table.slots c.product.result (counted_by table.slots _ (factors table.slots c.berths-berths.result c.berths-berths.ensures) c.product.result c.product.ensures) c.if-is_none.ensures) c.extend.result found)
+    (told K laws table hs (factors table.slots c.berths-berths.result c.berths-berths.ensures) c.fit_berths.result.peak c.args.limit c.min-limit.result (waits_of c.fit_berths.result.waits) (waits_of c.new-prefix.result.waits) fitted.choice fitted.is_peak c.min-limit.ensures (counted table.slots c.product.result (count g (goal.at.returns g c).After-product) c.if-is_none.ensures) c.extend.result found)

@@ -1,6 +1,5 @@
-use Rattle.std.proofs.Common.{◌<◌, ◌≤◌, refl, subst, mod-lt, arith}
+use Rattle.std.proofs.Common.{◌<◌, ◌≤◌, refl, mod-lt, arith}
 use Rattle.congruence.specs.Clocks.{Valid}
-use Rattle.draws.specs.Draws.{periods_of}
 use Rattle.draws.specs.Factors.{Factor}
 use Rattle.draws.proofs.Factoring.{factor_most, factor_some}
 use Rattle.draws.proofs.Sounds.{all_in_range, all_valid, verdict_ok}
